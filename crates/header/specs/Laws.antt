@@ -1,0 +1,101 @@
+-- The laws of the header's definitions that its code leans on: what a fit says, and each way out of the two calls.
+-- Assumes nothing.
+use Prim.Native.Nat.{ℕ, _+_, _%_, _≤_, _<_}
+use mathlib.Core.List.{List}
+use mathlib.Core.Path.{_≡_, refl, sym}
+use mathlib.Core.Bool.{Bool, true, false, _&&_, cond}
+use native.Mathlib.Omega.{arith}
+use borrow.Author.Tests.{leb-true, le-leb, lt-leb}
+use lib.Dec.{leb}
+use lib.ListN.{length}
+use Rattle.header.specs.declared.Header.{Header}
+use Rattle.header.specs.declared.MessageType.{MessageType}
+use Rattle.header.specs.declared.TypeRead.the-variants.{Known, Reserved}
+use Rattle.header.specs.declared.HeaderRead.the-variants.{Done, Refused}
+use Rattle.wire.specs.Be.{beAt}
+use Rattle.header.specs.Types.{typeOf}
+use Rattle.header.specs.Wire.{headerAt, readHeader, fitsWire, fitsOf, writeAnswer, writeExit, withHeader}
+
+-- ---- what the wire can hold
+
+and-true : (a b : Bool) → a && b ≡ true → (a ≡ true) × (b ≡ true)
+and-true true b e = (refl, e)
+and-true false b e = (e, let z : _≡_ {A = ℕ} 0 1 = cc in absurd (omega arith))
+
+pub record Fitting (sdo major minor content : ℕ) : Type 0 where
+  pub sdo-fits : sdo ≤ 0xFFF
+  pub major-fits : major ≤ 15
+  pub minor-fits : minor ≤ 15
+  pub content-fits : content ≤ 65501
+
+pub fitting : (sdo major minor content : ℕ) → fitsWire sdo major minor content ≡ true → Fitting sdo major minor content
+unfolding fitsWire
+fitting sdo major minor content e =
+    let p = and-true _ _ e in
+    let q = and-true _ _ (p .1) in
+    let r = and-true _ _ (q .1) in
+    record {
+      sdo-fits = leb-true _ _ (p .0);
+      major-fits = leb-true _ _ (q .0);
+      minor-fits = leb-true _ _ (r .0);
+      content-fits = leb-true _ _ (r .1);
+    }
+
+pub fitted : (sdo major minor content : ℕ) → Fitting sdo major minor content → fitsWire sdo major minor content ≡ true
+unfolding fitsWire
+fitted sdo major minor content f =
+    rw (le-leb sdo 0xFFF (f .sdo-fits), le-leb major 15 (f .major-fits), le-leb minor 15 (f .minor-fits), le-leb content 65501 (f .content-fits))
+
+-- ---- the three ways of a read
+
+module _ (s : List ℕ) where
+  pub read-1 : length s < 34 → Refused 1 ≡ readHeader s
+  unfolding readHeader
+  read-1 l = rw (lt-leb 34 (length s) l)
+
+  pub read-2 : 34 ≤ length s → typeOf (beAt s 0 1 % 16) ≡ Reserved → Refused 2 ≡ readHeader s
+  unfolding readHeader
+  read-2 l e = rw (le-leb 34 (length s) l, e)
+
+  pub read-0 : (t : MessageType) → 34 ≤ length s → typeOf (beAt s 0 1 % 16) ≡ Known t
+      → Done (record { header = headerAt s; «message_type» = t; «message_length» = beAt s 2 2 }) ≡ readHeader s
+  unfolding readHeader
+  read-0 t l e = rw (le-leb 34 (length s) l, e)
+
+-- ---- the three ways of a write
+
+-- the answer and the buffer afterwards
+abbrev pub Wrote : List ℕ → Header → MessageType → ℕ → ℕ → List ℕ → Type 0
+Wrote s h t content r out = (r ≡ writeAnswer s h content) × (out ≡ writeExit s h t content)
+
+module _ (s : List ℕ) (h : Header) (t : MessageType) (content : ℕ) where
+  pub wrote-15 : fitsOf h content ≡ false → Wrote s h t content 15 s
+  unfolding writeAnswer writeExit
+  wrote-15 e = rw e (refl, refl)
+
+  pub wrote-1 : fitsOf h content ≡ true → length s < 34 → Wrote s h t content 1 s
+  unfolding writeAnswer writeExit
+  wrote-1 e l = rw (e, lt-leb 34 (length s) l) (refl, refl)
+
+  pub wrote-0 : fitsOf h content ≡ true → 34 ≤ length s → Wrote s h t content 0 (withHeader s h t (content + 34))
+  unfolding writeAnswer writeExit
+  wrote-0 e l = rw (e, le-leb 34 (length s) l) (refl, refl)
+
+-- ---- what an answer of 0 says
+
+pub record WroteAll (s : List ℕ) (h : Header) (t : MessageType) (content : ℕ) : Type 0 where
+  pub fit : Fitting (h .«sdo_id») (h .version .major) (h .version .minor) content
+  pub room : 34 ≤ length s
+  pub exit : writeExit s h t content ≡ withHeader s h t (content + 34)
+
+picked : (a b : Bool) → _≡_ {A = ℕ} (cond a (cond b 0 1) 15) 0 → (a ≡ true) × (b ≡ true)
+picked true true e = (refl, refl)
+picked true false e = absurd (omega arith)
+picked false b e = absurd (omega arith)
+
+pub done : (s : List ℕ) (h : Header) (t : MessageType) (content : ℕ) → writeAnswer s h content ≡ 0 → WroteAll s h t content
+unfolding writeAnswer
+done s h t content e =
+    let p = picked (fitsOf h content) (leb 34 (length s)) e in
+    let l = leb-true 34 (length s) (p .1) in
+    record { fit = fitting _ _ _ _ (p .0); room = l; exit = sym (wrote-0 s h t content (p .0) l .1) }
