@@ -1,3 +1,4 @@
 pub mod Types
 pub mod Wire
 pub mod Laws
+pub mod RoundTrip
