@@ -13,14 +13,11 @@ use Rattle.header.specs.declared.MessageType.{MessageType}
 use Rattle.header.specs.declared.TypeRead.the-variants.{Known, Reserved}
 use Rattle.header.specs.declared.HeaderRead.the-variants.{Done, Refused}
 use Rattle.wire.specs.Be.{beAt}
+use Rattle.wire.specs.Below.{both}
 use Rattle.header.specs.Types.{typeOf}
 use Rattle.header.specs.Wire.{headerAt, readHeader, fitsWire, fitsOf, writeAnswer, writeExit, withHeader}
 
 -- ---- what the wire can hold
-
-and-true : (a b : Bool) → a && b ≡ true → (a ≡ true) × (b ≡ true)
-and-true true b e = (refl, e)
-and-true false b e = (e, let z : _≡_ {A = ℕ} 0 1 = cc in absurd (omega arith))
 
 pub record Fitting (sdo major minor content : ℕ) : Type 0 where
   pub sdo-fits : sdo ≤ 0xFFF
@@ -31,9 +28,9 @@ pub record Fitting (sdo major minor content : ℕ) : Type 0 where
 pub fitting : (sdo major minor content : ℕ) → fitsWire sdo major minor content ≡ true → Fitting sdo major minor content
 unfolding fitsWire
 fitting sdo major minor content e =
-    let p = and-true _ _ e in
-    let q = and-true _ _ (p .1) in
-    let r = and-true _ _ (q .1) in
+    let p = both _ _ e in
+    let q = both _ _ (p .1) in
+    let r = both _ _ (q .1) in
     record {
       sdo-fits = leb-true _ _ (p .0);
       major-fits = leb-true _ _ (q .0);

@@ -2,3 +2,4 @@ pub mod Types
 pub mod Wire
 pub mod Laws
 pub mod RoundTrip
+pub mod Again

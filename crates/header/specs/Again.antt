@@ -1,0 +1,118 @@
+-- What was read and is written again: the bytes that stood there, but for what the reader ignores and the control field.
+-- Assumes nothing.
+use Prim.Native.Nat.{ℕ, _+_, _-_, _*_, _/_, _%_, _^_, _≤_, _<_}
+use mathlib.Core.Path.{_≡_, refl, sym, ap, ap₂, _∙_}
+use mathlib.Core.Bool.{Bool, true, false}
+use mathlib.Core.List.{List, [], _∷_, _++_}
+use native.Mathlib.Omega.{arith}
+use borrow.Author.Tests.{eqb-true}
+use lib.Dec.{eqb}
+use lib.ListN.{length, take, drop}
+use mir.Syntax.{w8, w64}
+use mir.ValLaws.{ofZ-toZ}
+use Rattle.wire.specs.Be.{Bytes, beAt, bytesOf, put}
+use Rattle.wire.specs.BeLaws.{beAt-bound}
+use Rattle.wire.specs.Below.{below}
+use Rattle.wire.specs.Flags.{bit, pack}
+use Rattle.wire.specs.Layout.{total, fieldsAt, bytesOfAll}
+use Rattle.wire.specs.LayoutLaws.{bytesOfAll-append, bytes-fields}
+use Rattle.header.specs.declared.MessageType.{MessageType}
+use Rattle.header.specs.declared.TypeRead.the-variants.{Known}
+use Rattle.header.specs.Types.{typeOf, typeNumber, controlOf, number-back}
+use Rattle.header.specs.Wire.{headerWith, headerOf, headerAt, headerWidths, headerValues, headerBytes, bits6, bits7, withHeader, writeAnswer, writeExit}
+use Rattle.header.specs.Laws.{fitted, wrote-0}
+use Rattle.header.specs.RoundTrip.{whole-read}
+
+-- the bits of bytes 6 and 7 that have names: 0, 1, 2, 5, 6 and 0 to 6
+abbrev pub named6 : ℕ → ℕ
+named6 b = b % 8 + b / 32 % 4 * 32
+
+abbrev pub named7 : ℕ → ℕ
+named7 b = b % 128
+
+-- n bytes from `at` on
+abbrev pub part : List ℕ → ℕ → ℕ → List ℕ
+part s at n = take n (drop at s)
+
+-- the first 34 bytes, with the ignored bits and bytes 16 to 19 cleared and the given control field
+unfoldable pub cleared : List ℕ → ℕ → List ℕ
+cleared s control =
+    part s 0 6
+    ++ (bytesOf 1 (named6 (beAt s 6 1))
+    ++ (bytesOf 1 (named7 (beAt s 7 1))
+    ++ (part s 8 8
+    ++ (bytesOf 4 0
+    ++ (part s 20 12
+    ++ (bytesOf 1 control
+    ++ part s 33 1))))))
+
+-- ---- the numbers that are written
+
+-- the named flags of a byte, packed again, by a test over every byte
+abbrev again6 : ℕ → ℕ
+again6 b = pack (bit b 0 ∷ bit b 1 ∷ bit b 2 ∷ false ∷ false ∷ bit b 5 ∷ bit b 6 ∷ [])
+
+abbrev again7 : ℕ → ℕ
+again7 b = pack (bit b 0 ∷ bit b 1 ∷ bit b 2 ∷ bit b 3 ∷ bit b 4 ∷ bit b 5 ∷ bit b 6 ∷ [])
+
+pack6 : (b : ℕ) → b < 256 → again6 b ≡ named6 b
+pack6 b h = eqb-true (again6 b) (named6 b) (below (λ (k : ℕ). eqb (again6 k) (named6 k)) 256 refl b h)
+
+pack7 : (b : ℕ) → b < 256 → again7 b ≡ named7 b
+pack7 b h = eqb-true (again7 b) (named7 b) (below (λ (k : ℕ). eqb (again7 k) (named7 k)) 256 refl b h)
+
+-- are those that were read, but for the flags' bytes, the four bytes and the control field
+abbrev again : List ℕ → ℕ → List ℕ
+again s control =
+    beAt s 0 1 ∷ beAt s 1 1 ∷ beAt s 2 2 ∷ beAt s 4 1 ∷ beAt s 5 1 ∷ named6 (beAt s 6 1) ∷ named7 (beAt s 7 1) ∷ beAt s 8 8 ∷ 0
+    ∷ beAt s 20 8 ∷ beAt s 28 2 ∷ beAt s 30 2 ∷ control ∷ beAt s 33 1 ∷ []
+
+values-again : (s : List ℕ) (type control : ℕ) → Bytes s → type ≡ beAt s 0 1 % 16 → headerValues (headerAt s) type control (beAt s 2 2) ≡ again s control
+unfolding headerValues headerOf headerWith
+values-again s type control b e =
+    let b0 = beAt-bound s 0 1 b in
+    let b5 = beAt-bound s 5 1 b in
+    let first : (beAt s 0 1 / 16 * 256 + beAt s 5 1) / 256 * 16 + type ≡ beAt s 0 1 = omega arith in
+    let versions : beAt s 1 1 / 16 * 16 + beAt s 1 1 % 16 ≡ beAt s 1 1 = omega arith in
+    let low : (beAt s 0 1 / 16 * 256 + beAt s 5 1) % 256 ≡ beAt s 5 1 = omega arith in λ i.
+    (first i ∷ versions i ∷ beAt s 2 2 ∷ beAt s 4 1 ∷ low i ∷ pack6 (beAt s 6 1) (beAt-bound s 6 1 b) i ∷ pack7 (beAt s 7 1) (beAt-bound s 7 1 b) i
+    ∷ ofZ-toZ w64 (beAt s 8 8) (record { fits = beAt-bound s 8 8 b }) i ∷ 0 ∷ beAt s 20 8 ∷ beAt s 28 2 ∷ beAt s 30 2 ∷ control
+    ∷ ofZ-toZ w8 (beAt s 33 1) (record { fits = beAt-bound s 33 1 b }) i ∷ [])
+
+-- ---- and their bytes
+
+module _ (s : List ℕ) (b : Bytes s) (le : 34 ≤ length s) where
+  -- some fields that stand in the list from `at` on, and what follows them
+  stand : (ws : List ℕ) (at : ℕ) (us xs rest : List ℕ) → at + total ws ≤ length s → length ws ≡ length (fieldsAt ws s at)
+      → bytesOfAll us xs ≡ rest → bytesOfAll (ws ++ us) (fieldsAt ws s at ++ xs) ≡ part s at (total ws) ++ rest
+  stand ws at us xs rest h l e = bytesOfAll-append ws us (fieldsAt ws s at) xs l ∙ ap₂ _++_ (bytes-fields ws s at b h) e
+
+  bytes-again : (control : ℕ) → bytesOfAll headerWidths (again s control) ≡ cleared s control
+  unfolding cleared headerWidths fieldsAt bytesOfAll
+  bytes-again control =
+      stand (1 ∷ 1 ∷ 2 ∷ 1 ∷ 1 ∷ []) 0 (drop 5 headerWidths) (drop 5 (again s control)) _ (omega arith) refl
+      (ap (λ (r : List ℕ). bytesOf 1 (named6 (beAt s 6 1)) ++ (bytesOf 1 (named7 (beAt s 7 1)) ++ r))
+      (stand (8 ∷ []) 8 (drop 8 headerWidths) (drop 8 (again s control)) _ (omega arith) refl
+      (ap (λ (r : List ℕ). bytesOf 4 0 ++ r)
+      (stand (8 ∷ 2 ∷ 2 ∷ []) 20 (drop 12 headerWidths) (drop 12 (again s control)) _ (omega arith) refl
+      (ap (λ (r : List ℕ). bytesOf 1 control ++ r)
+      (bytes-fields (1 ∷ []) s 33 b le))))))
+
+-- a header that was read, written again with the length it had
+pub header-again : (s : List ℕ) (t : MessageType) → Bytes s → 34 ≤ length s → typeOf (beAt s 0 1 % 16) ≡ Known t
+    → headerBytes (headerAt s) t (beAt s 2 2) ≡ cleared s (controlOf t)
+header-again s t b le e =
+    ap (bytesOfAll headerWidths) (values-again s (typeNumber t) (controlOf t) b (number-back (beAt s 0 1 % 16) t e)) ∙ bytes-again s b le (controlOf t)
+
+-- of the calls: the writer takes it, and any target then holds those bytes at its start and is else as it lay
+pub calls-again : (s target : List ℕ) (t : MessageType) → Bytes s → 34 ≤ length s → typeOf (beAt s 0 1 % 16) ≡ Known t → 34 ≤ beAt s 2 2 → 34 ≤ length target
+    → (writeAnswer target (headerAt s) (beAt s 2 2 - 34) ≡ 0)
+    × (writeExit target (headerAt s) t (beAt s 2 2 - 34) ≡ put target 0 (cleared s (controlOf t)))
+unfolding withHeader
+calls-again s target t b le e long room =
+    let content = beAt s 2 2 - 34 in
+    let w = whole-read s b in
+    let fits = fitted _ _ _ content (record { sdo-fits = w .sdo; major-fits = w .major; minor-fits = w .minor; content-fits = omega (arith, beAt-bound s 2 2 b) }) in
+    let wrote = wrote-0 target (headerAt s) t content fits room in
+    let size : content + 34 ≡ beAt s 2 2 = omega arith in
+    (sym (wrote .0), sym (wrote .1) ∙ ap (λ (n : ℕ). put target 0 (headerBytes (headerAt s) t n)) size ∙ ap (put target 0) (header-again s t b le e))
