@@ -85,7 +85,8 @@ pub record WroteAll (s : List ℕ) (h : Header) (t : MessageType) (content : ℕ
   pub room : 34 ≤ length s
   pub exit : writeExit s h t content ≡ withHeader s h t (content + 34)
 
-picked : (a b : Bool) → _≡_ {A = ℕ} (cond a (cond b 0 1) 15) 0 → (a ≡ true) × (b ≡ true)
+-- an answer of 0 passed both tests
+pub picked : (a b : Bool) → _≡_ {A = ℕ} (cond a (cond b 0 1) 15) 0 → (a ≡ true) × (b ≡ true)
 picked true true e = (refl, refl)
 picked true false e = absurd (omega arith)
 picked false b e = absurd (omega arith)
