@@ -1,8 +1,8 @@
 -- What was read and is written again: the bytes that stood there, but for what the reader ignores and the control field.
 -- Assumes nothing.
-use Prim.Native.Nat.{ℕ, _+_, _-_, _*_, _/_, _%_, _^_, _≤_, _<_}
+use Prim.Native.Nat.{ℕ, _+_, _-_, _*_, _/_, _%_, _≤_, _<_}
 use mathlib.Core.Path.{_≡_, refl, sym, ap, ap₂, _∙_}
-use mathlib.Core.Bool.{Bool, true, false}
+use mathlib.Core.Bool.{false}
 use mathlib.Core.List.{List, [], _∷_, _++_}
 use native.Mathlib.Omega.{arith}
 use borrow.Author.Tests.{eqb-true}
@@ -19,7 +19,7 @@ use Rattle.wire.specs.LayoutLaws.{bytesOfAll-append, bytes-fields}
 use Rattle.header.specs.declared.MessageType.{MessageType}
 use Rattle.header.specs.declared.TypeRead.the-variants.{Known}
 use Rattle.header.specs.Types.{typeOf, typeNumber, controlOf, number-back}
-use Rattle.header.specs.Wire.{headerWith, headerOf, headerAt, headerWidths, headerValues, headerBytes, bits6, bits7, withHeader, writeAnswer, writeExit}
+use Rattle.header.specs.Wire.{headerWith, headerOf, headerAt, headerWidths, headerValues, headerBytes, withHeader, writeAnswer, writeExit}
 use Rattle.header.specs.Laws.{fitted, wrote-0}
 use Rattle.header.specs.RoundTrip.{whole-read}
 

@@ -9,7 +9,7 @@ use native.Mathlib.Omega.{arith}
 use lib.Arith.{digits-lt, digits-div, digits-mod, mod-mul}
 use lib.Dec.{lit<}
 use lib.ListN.{length, getD, set, take, drop, length-append, length-drop, length-set, take-append-drop, List·getD-append}
-use lib.Seq.{take-add, take-take, drop-append-le, length-take-le, take-suc, getD-drop, getD-at, take-at, drop-at, take-set-le, drop-set-lt, getD-take, getD-append-add, drop-cons, getD-set-same, drop-append-add, drop-drop}
+use lib.Seq.{length-take-le, take-suc, getD-drop, getD-at, take-at, drop-at, take-set-le, drop-set-lt, getD-take, getD-append-add, drop-cons, getD-set-same, drop-append-add, drop-drop}
 use Rattle.wire.specs.Be.{Bytes, beAt, bytesOf, put}
 
 -- ---- a number of n bytes
