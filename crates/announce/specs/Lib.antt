@@ -1,2 +1,4 @@
 pub mod Wire
 pub mod Laws
+pub mod RoundTrip
+pub mod Message

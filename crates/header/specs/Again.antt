@@ -15,7 +15,7 @@ use Rattle.wire.specs.BeLaws.{beAt-bound}
 use Rattle.wire.specs.Below.{below}
 use Rattle.wire.specs.Flags.{bit, pack}
 use Rattle.wire.specs.Layout.{total, fieldsAt, bytesOfAll}
-use Rattle.wire.specs.LayoutLaws.{bytesOfAll-append, bytes-fields}
+use Rattle.wire.specs.LayoutLaws.{bytes-fields, bytes-fields-then}
 use Rattle.header.specs.declared.MessageType.{MessageType}
 use Rattle.header.specs.declared.TypeRead.the-variants.{Known}
 use Rattle.header.specs.Types.{typeOf, typeNumber, controlOf, number-back}
@@ -81,28 +81,22 @@ values-again s type control b e =
 
 -- ---- and their bytes
 
-module _ (s : List ℕ) (b : Bytes s) (le : 34 ≤ length s) where
-  -- some fields that stand in the list from `at` on, and what follows them
-  stand : (ws : List ℕ) (at : ℕ) (us xs rest : List ℕ) → at + total ws ≤ length s → length ws ≡ length (fieldsAt ws s at)
-      → bytesOfAll us xs ≡ rest → bytesOfAll (ws ++ us) (fieldsAt ws s at ++ xs) ≡ part s at (total ws) ++ rest
-  stand ws at us xs rest h l e = bytesOfAll-append ws us (fieldsAt ws s at) xs l ∙ ap₂ _++_ (bytes-fields ws s at b h) e
-
-  bytes-again : (control : ℕ) → bytesOfAll headerWidths (again s control) ≡ cleared s control
-  unfolding cleared headerWidths fieldsAt bytesOfAll
-  bytes-again control =
-      stand (1 ∷ 1 ∷ 2 ∷ 1 ∷ 1 ∷ []) 0 (drop 5 headerWidths) (drop 5 (again s control)) _ (omega arith) refl
-      (ap (λ (r : List ℕ). bytesOf 1 (named6 (beAt s 6 1)) ++ (bytesOf 1 (named7 (beAt s 7 1)) ++ r))
-      (stand (8 ∷ []) 8 (drop 8 headerWidths) (drop 8 (again s control)) _ (omega arith) refl
-      (ap (λ (r : List ℕ). bytesOf 4 0 ++ r)
-      (stand (8 ∷ 2 ∷ 2 ∷ []) 20 (drop 12 headerWidths) (drop 12 (again s control)) _ (omega arith) refl
-      (ap (λ (r : List ℕ). bytesOf 1 control ++ r)
-      (bytes-fields (1 ∷ []) s 33 b le))))))
+bytes-again : (s : List ℕ) (control : ℕ) → Bytes s → 34 ≤ length s → bytesOfAll headerWidths (again s control) ≡ cleared s control
+unfolding cleared headerWidths fieldsAt bytesOfAll
+bytes-again s control b le =
+    bytes-fields-then (1 ∷ 1 ∷ 2 ∷ 1 ∷ 1 ∷ []) s 0 (drop 5 headerWidths) (drop 5 (again s control)) _ b (omega arith) refl
+    (ap (λ (r : List ℕ). bytesOf 1 (named6 (beAt s 6 1)) ++ (bytesOf 1 (named7 (beAt s 7 1)) ++ r))
+    (bytes-fields-then (8 ∷ []) s 8 (drop 8 headerWidths) (drop 8 (again s control)) _ b (omega arith) refl
+    (ap (λ (r : List ℕ). bytesOf 4 0 ++ r)
+    (bytes-fields-then (8 ∷ 2 ∷ 2 ∷ []) s 20 (drop 12 headerWidths) (drop 12 (again s control)) _ b (omega arith) refl
+    (ap (λ (r : List ℕ). bytesOf 1 control ++ r)
+    (bytes-fields (1 ∷ []) s 33 b le))))))
 
 -- a header that was read, written again with the length it had
 pub header-again : (s : List ℕ) (t : MessageType) → Bytes s → 34 ≤ length s → typeOf (beAt s 0 1 % 16) ≡ Known t
     → headerBytes (headerAt s) t (beAt s 2 2) ≡ cleared s (controlOf t)
 header-again s t b le e =
-    ap (bytesOfAll headerWidths) (values-again s (typeNumber t) (controlOf t) b (number-back (beAt s 0 1 % 16) t e)) ∙ bytes-again s b le (controlOf t)
+    ap (bytesOfAll headerWidths) (values-again s (typeNumber t) (controlOf t) b (number-back (beAt s 0 1 % 16) t e)) ∙ bytes-again s (controlOf t) b le
 
 -- of the calls: the writer takes it, and any target then holds those bytes at its start and is else as it lay
 pub calls-again : (s target : List ℕ) (t : MessageType) → Bytes s → 34 ≤ length s → typeOf (beAt s 0 1 % 16) ≡ Known t → 34 ≤ beAt s 2 2 → 34 ≤ length target

@@ -1,9 +1,11 @@
 -- Reading what was written gives the same values; what was read and is written again differs only where the reader looks away.
 -- Assumes nothing.
 use Prim.Native.Nat.{ℕ, _+_, _*_, _/_, _%_, _^_, _≤_, _<_, zero-le}
-use mathlib.Core.Path.{_≡_, refl, sym, ap, _∙_}
+use mathlib.Core.Path.{_≡_, refl, sym, ap, ap₂, _∙_}
+use mathlib.Core.Bool.{cond}
 use mathlib.Core.List.{List}
 use native.Mathlib.Omega.{arith}
+use lib.Dec.{leb}
 use lib.ListN.{length, getD}
 use mir.Syntax.{w8, w64}
 use mir.Val.{SFits}
@@ -16,9 +18,9 @@ use Rattle.wire.specs.Layout.{fieldsAt, Fit}
 use Rattle.wire.specs.LayoutLaws.{length-bytesOfAll, bytes-bytesOfAll, fields-before}
 use Rattle.header.specs.declared.Header.{Header}
 use Rattle.header.specs.declared.MessageType.{MessageType}
-use Rattle.header.specs.declared.HeaderRead.the-variants.{Done}
+use Rattle.header.specs.declared.HeaderRead.the-variants.{Done, Refused}
 use Rattle.header.specs.Types.{typeOf, typeNumber, controlOf, number-le, control-le, type-back}
-use Rattle.header.specs.Wire.{headerWith, headerOf, headerAt, headerWidths, headerValues, headerBytes, bits6, bits7, withHeader, readHeader, writeAnswer, writeExit}
+use Rattle.header.specs.Wire.{headerWith, headerOf, headerAt, headerWidths, headerValues, headerBytes, bits6, bits7, withHeader, readType, readHeader, writeAnswer, writeExit}
 use Rattle.header.specs.Laws.{done, read-0}
 
 -- every field is a value of its type, as far as the wire shows
@@ -117,7 +119,7 @@ pub headerCodec : Codec Wired
 headerCodec = record { widths = headerWidths; values = valuesOf; meaning = fromValues; Valid = Valid; fit = fit; back = meaning }
 
 -- the reader goes by it
-abbrev wiredAt : List ℕ → Wired
+abbrev pub wiredAt : List ℕ → Wired
 wiredAt s = record { header = headerAt s; type = beAt s 0 1 % 16; control = beAt s 32 1; size = beAt s 2 2 }
 
 by-layout : (s : List ℕ) → wiredAt s ≡ readAs headerCodec s 0
@@ -126,13 +128,13 @@ by-layout s = refl
 
 -- ---- reading what was written
 
-abbrev wiredOf : Header → MessageType → ℕ → Wired
+abbrev pub wiredOf : Header → MessageType → ℕ → Wired
 wiredOf h t size = record { header = h; type = typeNumber t; control = controlOf t; size = size }
 
 valid : (h : Header) (t : MessageType) (size : ℕ) → Whole h → size < 65536 → Valid (wiredOf h t size)
 valid h t size w hs = record { whole = w; type-fits = omega (arith, number-le t); control-fits = omega (arith, control-le t); size-fits = hs }
 
-wired-trip : (s : List ℕ) (h : Header) (t : MessageType) (size : ℕ) → Whole h → size < 65536 → wiredAt (withHeader s h t size) ≡ wiredOf h t size
+pub wired-trip : (s : List ℕ) (h : Header) (t : MessageType) (size : ℕ) → Whole h → size < 65536 → wiredAt (withHeader s h t size) ≡ wiredOf h t size
 unfolding withHeader headerCodec
 wired-trip s h t size w hs =
     by-layout (writeAs headerCodec s 0 (wiredOf h t size)) ∙ trip headerCodec s 0 (wiredOf h t size) (valid h t size w hs) zero-le
@@ -193,6 +195,13 @@ pub header-kept : (s : List ℕ) (k : ℕ) (bs : List ℕ) → 34 ≤ k → k �
 unfolding headerCodec headerWidths
 header-kept s k bs h le =
     by-layout (put s k bs) ∙ ap fromValues (fields-before headerWidths s 0 k bs (omega arith) le) ∙ sym (by-layout s)
+
+-- and so is what the reader answers
+pub read-kept : (s : List ℕ) (k : ℕ) (bs : List ℕ) → 34 ≤ k → k + length bs ≤ length s → readHeader (put s k bs) ≡ readHeader s
+unfolding readHeader
+read-kept s k bs h le =
+    ap₂ (λ (n : ℕ) (w : Wired). cond (leb 34 n) (readType (typeOf (w .type)) (w .header) (w .size)) (Refused 1)) (length-put s k bs le)
+    (header-kept s k bs h (omega arith))
 
 pub bytes-withHeader : (s : List ℕ) (h : Header) (t : MessageType) (size : ℕ) → Bytes s → Bytes (withHeader s h t size)
 unfolding withHeader

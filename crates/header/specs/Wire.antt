@@ -62,14 +62,14 @@ headerAt s =
     headerOf (beAt s 0 1) (beAt s 1 1) (beAt s 4 1) (beAt s 5 1) (beAt s 6 1) (beAt s 7 1) (beAt s 8 8)
     (portIdentityAt s 20) (beAt s 30 2) (beAt s 33 1)
 
--- by what the low nibble of byte 0 says: a reserved type is refused 2
-abbrev pub readAs : List ℕ → TypeRead → HeaderRead
-readAs s (Known t) = Done (record { header = headerAt s; «message_type» = t; «message_length» = beAt s 2 2 })
-readAs s Reserved = Refused 2
+-- by the type that the low nibble of byte 0 says: a reserved one is refused 2
+abbrev pub readType : TypeRead → Header → ℕ → HeaderRead
+readType (Known t) h size = Done (record { header = h; «message_type» = t; «message_length» = size })
+readType Reserved h size = Refused 2
 
 -- fewer than 34 bytes are refused 1 before that
 unfoldable pub readHeader : List ℕ → HeaderRead
-readHeader s = cond (leb 34 (length s)) (readAs s (typeOf (beAt s 0 1 % 16))) (Refused 1)
+readHeader s = cond (leb 34 (length s)) (readType (typeOf (beAt s 0 1 % 16)) (headerAt s) (beAt s 2 2)) (Refused 1)
 
 -- ---- what is written
 

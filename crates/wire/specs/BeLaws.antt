@@ -107,6 +107,19 @@ put-over s at bs cs e le =
     rw e (drop-at (take at s ++ bs) (drop (at + length bs) s) (at + length bs) (simp (length-append, here))) in
     rw (front, back)
 
+-- the front of a run over the run
+pub put-front : (s : List ℕ) (at : ℕ) (bs cs : List ℕ) → at ≤ length s → put (put s at (bs ++ cs)) at bs ≡ put s at (bs ++ cs)
+unfolding put
+put-front s at bs cs le =
+    let p = take at s in
+    let rest = drop (at + length (bs ++ cs)) s in
+    let here : length p ≡ at = length-take-le at s le in
+    let front : take at (p ++ (bs ++ cs) ++ rest) ≡ p = rw append-assoc (take-at p ((bs ++ cs) ++ rest) at here) in
+    let split : p ++ (bs ++ cs) ++ rest ≡ (p ++ bs) ++ (cs ++ rest) = simp append-assoc in
+    let back : drop (at + length bs) (p ++ (bs ++ cs) ++ rest) ≡ cs ++ rest =
+    rw split (drop-at (p ++ bs) (cs ++ rest) (at + length bs) (simp (length-append, here))) in
+    rw (front, back) (simp append-assoc)
+
 -- a byte outside the run is as it was
 pub getD-put-before : (s : List ℕ) (at : ℕ) (bs : List ℕ) (i : ℕ) → i < at → at ≤ length s → getD (put s at bs) i 0 ≡ getD s i 0
 unfolding put
