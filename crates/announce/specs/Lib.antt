@@ -2,3 +2,4 @@ pub mod Wire
 pub mod Laws
 pub mod RoundTrip
 pub mod Message
+pub mod Example
