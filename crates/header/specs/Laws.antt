@@ -5,10 +5,11 @@ use mathlib.Core.List.{List}
 use mathlib.Core.Path.{_≡_, refl, sym}
 use mathlib.Core.Bool.{Bool, true, false, cond}
 use native.Mathlib.Omega.{arith}
-use borrow.Author.Tests.{leb-true, le-leb, lt-leb}
+use borrow.Author.Tests.{leb-true, leb-false, le-leb, lt-leb}
 use lib.Dec.{leb}
 use lib.ListN.{length}
 use Rattle.header.specs.declared.Header.{Header}
+use Rattle.header.specs.declared.DeserializedHeader.{DeserializedHeader}
 use Rattle.header.specs.declared.MessageType.{MessageType}
 use Rattle.header.specs.declared.TypeRead.the-variants.{Known, Reserved}
 use Rattle.header.specs.declared.HeaderRead.the-variants.{Done, Refused}
@@ -58,6 +59,17 @@ module _ (s : List ℕ) where
       → Done (record { header = headerAt s; «message_type» = t; «message_length» = beAt s 2 2 }) ≡ readHeader s
   unfolding readHeader
   read-0 t l e = rw (le-leb 34 (length s) l, e)
+
+-- what is read has the bytes of a header
+pub read-long : (s : List ℕ) (d : DeserializedHeader) → readHeader s ≡ Done d → 34 ≤ length s
+read-long s d e = by (leb 34 (length s)) refl
+  where
+    by : (b : Bool) → leb 34 (length s) ≡ b → 34 ≤ length s
+    by true t = leb-true 34 (length s) t
+    by false f =
+        let r = read-1 s (leb-false 34 (length s) f) in
+        let z : _≡_ {A = ℕ} 0 1 = cc in
+        absurd (omega arith)
 
 -- ---- the three ways of a write
 

@@ -74,6 +74,7 @@ pub enum HeaderRead {
 
 // How many bytes a header takes, and how many may follow it.
 pub const HEADER_SIZE: usize = 34;
+
 const CONTENT_LIMIT: usize = 65501;
 
 // The widths of the fields on the wire.
@@ -333,6 +334,11 @@ pub fn serialize_header(
     if buffer.len() < HEADER_SIZE {
         return 1;
     }
-    put_header(h, content_type, (content_length + HEADER_SIZE) as u16, buffer);
+    put_header(
+        h,
+        content_type,
+        (content_length + HEADER_SIZE) as u16,
+        buffer,
+    );
     0
 }
