@@ -2,7 +2,7 @@
 -- Assumes nothing.
 use Prim.Native.Nat.{ℕ, _+_, _^_, _≤_, _<_, zero-le}
 use mathlib.Core.Path.{_≡_, refl, sym, ap, ap₂, _∙_}
-use mathlib.Core.List.{List}
+use mathlib.Core.List.{List, [], _∷_}
 use native.Mathlib.Nat.{add-assoc, add-zero}
 use native.Mathlib.Omega.{arith}
 use lib.IntN.{ℤ}
@@ -10,11 +10,11 @@ use lib.ListN.{length, getD, drop}
 use mir.Syntax.{w16}
 use mir.Val.{SFits}
 use mir.ValLaws.{ofZ-fits, toZ-ofZ, toZ-fits}
-use Rattle.wire.specs.Be.{Bytes, beAt, put}
-use Rattle.wire.specs.BeLaws.{beAt-bound, beAt-drop, length-put, put-over}
+use Rattle.wire.specs.Be.{Bytes, beAt, bytesOf, put}
+use Rattle.wire.specs.BeLaws.{beAt-bound, beAt-drop, length-bytesOf, length-put, put-over}
 use Rattle.wire.specs.Codec.{Codec, readAs, writeAs, trip}
 use Rattle.wire.specs.Layout.{fieldsAt, Fit}
-use Rattle.wire.specs.LayoutLaws.{length-bytesOfAll, fields-put}
+use Rattle.wire.specs.LayoutLaws.{length-bytesOfAll, fields-put, fields-before, fields-after}
 use Rattle.header.specs.declared.Header.{Header}
 use Rattle.announce.specs.declared.AnnounceMessage.{AnnounceMessage}
 use Rattle.announce.specs.declared.AnnounceRead.the-variants.{Done}
@@ -128,6 +128,27 @@ whole-read h s at b =
 -- in the part of a message from `at` on is what stands in the message there
 pub content-part : (h : Header) (s : List ℕ) (at : ℕ) → contentAt h (drop at s) 0 ≡ contentAt h s at
 content-part h s at = simp (beAt-drop, add-zero)
+
+-- ---- what is ignored
+
+-- the numbers before byte 12 and those after it tell the message
+around : Header → List ℕ → List ℕ → AnnounceMessage
+around h f g =
+    announceOf h (getD f 0 0) (getD f 1 0) (getD f 2 0) (getD g 0 0) (getD g 1 0) (getD g 2 0) (getD g 3 0) (getD g 4 0) (getD g 5 0) (getD g 6 0) (getD g 7 0)
+
+by-around : (h : Header) (s : List ℕ) (at : ℕ)
+    → contentAt h s at ≡ around h (fieldsAt (6 ∷ 4 ∷ 2 ∷ []) s at) (fieldsAt (1 ∷ 1 ∷ 1 ∷ 2 ∷ 1 ∷ 8 ∷ 2 ∷ 1 ∷ []) s (at + 13))
+unfolding around fieldsAt
+by-around h s at = simp add-assoc
+
+-- so the content reads the same whatever byte 12 holds
+pub ignored : (h : Header) (s : List ℕ) (at x : ℕ) → at + 30 ≤ length s → contentAt h (put s (at + 12) (bytesOf 1 x)) at ≡ contentAt h s at
+ignored h s at x le =
+    by-around h (put s (at + 12) (bytesOf 1 x)) at
+    ∙ ap₂ (around h)
+    (fields-before (6 ∷ 4 ∷ 2 ∷ []) s at (at + 12) (bytesOf 1 x) (omega arith) (omega arith))
+    (fields-after (1 ∷ 1 ∷ 1 ∷ 2 ∷ 1 ∷ 8 ∷ 2 ∷ 1 ∷ []) s (at + 13) (at + 12) (bytesOf 1 x) (rw length-bytesOf (omega arith)) (rw length-bytesOf (omega arith)))
+    ∙ sym (by-around h s at)
 
 -- ---- writing over
 

@@ -1,8 +1,8 @@
 -- What was read and is written again: the bytes that stood there, but for what the reader ignores and the control field.
 -- Assumes nothing.
-use Prim.Native.Nat.{ℕ, _+_, _-_, _*_, _/_, _%_, _≤_, _<_}
+use Prim.Native.Nat.{ℕ, _+_, _-_, _*_, _/_, _%_, _≤_, _<_, zero-le}
 use mathlib.Core.Path.{_≡_, refl, sym, ap, ap₂, _∙_}
-use mathlib.Core.Bool.{false}
+use mathlib.Core.Bool.{Bool, true, false}
 use mathlib.Core.List.{List, [], _∷_, _++_}
 use native.Mathlib.Omega.{arith}
 use borrow.Author.Tests.{eqb-true}
@@ -11,17 +11,18 @@ use lib.ListN.{length, take, drop}
 use mir.Syntax.{w8, w64}
 use mir.ValLaws.{ofZ-toZ}
 use Rattle.wire.specs.Be.{Bytes, beAt, bytesOf, put}
-use Rattle.wire.specs.BeLaws.{beAt-bound}
-use Rattle.wire.specs.Below.{below}
-use Rattle.wire.specs.Flags.{bit, pack}
-use Rattle.wire.specs.Layout.{total, fieldsAt, bytesOfAll}
-use Rattle.wire.specs.LayoutLaws.{bytes-fields, bytes-fields-then}
+use Rattle.wire.specs.BeLaws.{beAt-bound, length-put}
+use Rattle.wire.specs.Below.{holdsBelow, below}
+use Rattle.wire.specs.Flags.{num, bit, pack}
+use Rattle.wire.specs.Layout.{fieldsAt, bytesOfAll, Fit}
+use Rattle.wire.specs.LayoutLaws.{length-bytesOfAll, bytes-fields, bytes-fields-then, fields-put}
+use Rattle.header.specs.declared.Header.{Header}
 use Rattle.header.specs.declared.MessageType.{MessageType}
 use Rattle.header.specs.declared.TypeRead.the-variants.{Known}
 use Rattle.header.specs.Types.{typeOf, typeNumber, controlOf, number-back}
-use Rattle.header.specs.Wire.{headerWith, headerOf, headerAt, headerWidths, headerValues, headerBytes, withHeader, writeAnswer, writeExit}
+use Rattle.header.specs.Wire.{portIdentityAt, headerWith, headerOf, headerAt, readType, readHeader, headerWidths, headerValues, headerBytes, withHeader, writeAnswer, writeExit}
 use Rattle.header.specs.Laws.{fitted, wrote-0}
-use Rattle.header.specs.RoundTrip.{whole-read}
+use Rattle.header.specs.RoundTrip.{Wired, fromValues, by-layout, readWired, by-wired, whole-read}
 
 -- the bits of bytes 6 and 7 that have names: 0, 1, 2, 5, 6 and 0 to 6
 abbrev pub named6 : ℕ → ℕ
@@ -110,3 +111,81 @@ calls-again s target t b le e long room =
     let wrote = wrote-0 target (headerAt s) t content fits room in
     let size : content + 34 ≡ beAt s 2 2 = omega arith in
     (sym (wrote .0), sym (wrote .1) ∙ ap (λ (n : ℕ). put target 0 (headerBytes (headerAt s) t n)) size ∙ ap (put target 0) (header-again s t b le e))
+
+-- ---- what is ignored
+
+num-same : (x y : Bool) → num x ≡ num y → x ≡ y
+num-same true true e = refl
+num-same true false e = absurd (omega arith)
+num-same false true e = absurd (omega arith)
+num-same false false e = refl
+
+-- a flag that has a name is the same with the other bits cleared, by a test over every byte
+kept6 : (k : ℕ) → holdsBelow (λ (b : ℕ). eqb (num (bit (named6 b) k)) (num (bit b k))) 256 ≡ true → (b : ℕ) → b < 256 → bit (named6 b) k ≡ bit b k
+kept6 k t b h = num-same (bit (named6 b) k) (bit b k) (eqb-true _ _ (below (λ (b : ℕ). eqb (num (bit (named6 b) k)) (num (bit b k))) 256 t b h))
+
+kept7 : (k : ℕ) → holdsBelow (λ (b : ℕ). eqb (num (bit (named7 b) k)) (num (bit b k))) 256 ≡ true → (b : ℕ) → b < 256 → bit (named7 b) k ≡ bit b k
+kept7 k t b h = num-same (bit (named7 b) k) (bit b k) (eqb-true _ _ (below (λ (b : ℕ). eqb (num (bit (named7 b) k)) (num (bit b k))) 256 t b h))
+
+-- so the numbers written again mean the same header
+same-meaning : (s : List ℕ) → Bytes s
+    → headerOf (beAt s 0 1) (beAt s 1 1) (beAt s 4 1) (beAt s 5 1) (named6 (beAt s 6 1)) (named7 (beAt s 7 1)) (beAt s 8 8) (portIdentityAt s 20) (beAt s 30 2) (beAt s 33 1)
+    ≡ headerAt s
+unfolding headerOf headerWith
+same-meaning s b =
+    let h6 = beAt-bound s 6 1 b in
+    let h7 = beAt-bound s 7 1 b in
+    let h = headerAt s in λ i.
+    record {
+      «sdo_id» = h .«sdo_id»;
+      version = h .version;
+      «domain_number» = h .«domain_number»;
+      «alternate_master_flag» = kept6 0 refl (beAt s 6 1) h6 i;
+      «two_step_flag» = kept6 1 refl (beAt s 6 1) h6 i;
+      «unicast_flag» = kept6 2 refl (beAt s 6 1) h6 i;
+      «ptp_profile_specific_1» = kept6 5 refl (beAt s 6 1) h6 i;
+      «ptp_profile_specific_2» = kept6 6 refl (beAt s 6 1) h6 i;
+      leap61 = kept7 0 refl (beAt s 7 1) h7 i;
+      leap59 = kept7 1 refl (beAt s 7 1) h7 i;
+      «current_utc_offset_valid» = kept7 2 refl (beAt s 7 1) h7 i;
+      «ptp_timescale» = kept7 3 refl (beAt s 7 1) h7 i;
+      «time_tracable» = kept7 4 refl (beAt s 7 1) h7 i;
+      «frequency_tracable» = kept7 5 refl (beAt s 7 1) h7 i;
+      «synchronization_uncertain» = kept7 6 refl (beAt s 7 1) h7 i;
+      «correction_field» = h .«correction_field»;
+      «source_port_identity» = h .«source_port_identity»;
+      «sequence_id» = h .«sequence_id»;
+      «log_message_interval» = h .«log_message_interval»;
+    }
+
+again-fits : (s : List ℕ) (control : ℕ) → Bytes s → control < 256 → Fit headerWidths (again s control)
+unfolding Fit headerWidths
+again-fits s control b h =
+    omega (
+      arith,
+      beAt-bound s 0 1 b,
+      beAt-bound s 1 1 b,
+      beAt-bound s 2 2 b,
+      beAt-bound s 4 1 b,
+      beAt-bound s 5 1 b,
+      beAt-bound s 8 8 b,
+      beAt-bound s 20 8 b,
+      beAt-bound s 28 2 b,
+      beAt-bound s 30 2 b,
+      beAt-bound s 33 1 b,
+    )
+
+-- a header reads the same with the ignored bits and bytes cleared and with any control field
+pub ignored : (s : List ℕ) (control : ℕ) → Bytes s → 34 ≤ length s → control < 256 → readHeader (put s 0 (cleared s control)) ≡ readHeader s
+unfolding fromValues headerWidths
+ignored s control b le h =
+    let bs = bytesOfAll headerWidths (again s control) in
+    let e : cleared s control ≡ bs = sym (bytes-again s control b le) in
+    let l : length (put s 0 bs) ≡ length s = length-put s 0 bs (rw length-bytesOfAll le) in
+    let v : fieldsAt headerWidths (put s 0 bs) 0 ≡ again s control =
+    fields-put s 0 headerWidths (again s control) zero-le (again-fits s control b h) in
+    ap (λ (x : List ℕ). readHeader (put s 0 x)) e
+    ∙ by-wired (put s 0 bs)
+    ∙ ap₂ readWired l (by-layout (put s 0 bs) ∙ ap fromValues v)
+    ∙ ap (λ (g : Header). readWired (length s) (record { header = g; type = beAt s 0 1 % 16; control = control; size = beAt s 2 2 })) (same-meaning s b)
+    ∙ sym (by-wired s)

@@ -18,6 +18,7 @@ use Rattle.wire.specs.Layout.{fieldsAt, Fit}
 use Rattle.wire.specs.LayoutLaws.{length-bytesOfAll, bytes-bytesOfAll, fields-before}
 use Rattle.header.specs.declared.Header.{Header}
 use Rattle.header.specs.declared.MessageType.{MessageType}
+use Rattle.header.specs.declared.HeaderRead.{HeaderRead}
 use Rattle.header.specs.declared.HeaderRead.the-variants.{Done, Refused}
 use Rattle.header.specs.Types.{typeOf, typeNumber, controlOf, number-le, control-le, type-back}
 use Rattle.header.specs.Wire.{headerWith, headerOf, headerAt, headerWidths, headerValues, headerBytes, bits6, bits7, withHeader, readType, readHeader, writeAnswer, writeExit}
@@ -54,7 +55,7 @@ pub record Valid (w : Wired) : Type 0 where
   pub size-fits : w .size < 65536
 
 -- what the numbers of the fields mean
-fromValues : List ℕ → Wired
+unfoldable pub fromValues : List ℕ → Wired
 fromValues v =
     record {
       header =
@@ -122,9 +123,17 @@ headerCodec = record { widths = headerWidths; values = valuesOf; meaning = fromV
 abbrev pub wiredAt : List ℕ → Wired
 wiredAt s = record { header = headerAt s; type = beAt s 0 1 % 16; control = beAt s 32 1; size = beAt s 2 2 }
 
-by-layout : (s : List ℕ) → wiredAt s ≡ readAs headerCodec s 0
-unfolding headerCodec fromValues fieldsAt headerWidths
+pub by-layout : (s : List ℕ) → wiredAt s ≡ fromValues (fieldsAt headerWidths s 0)
+unfolding fromValues fieldsAt headerWidths
 by-layout s = refl
+
+-- and what it answers is told by the number of bytes and those numbers
+abbrev pub readWired : ℕ → Wired → HeaderRead
+readWired n w = cond (leb 34 n) (readType (typeOf (w .type)) (w .header) (w .size)) (Refused 1)
+
+pub by-wired : (s : List ℕ) → readHeader s ≡ readWired (length s) (wiredAt s)
+unfolding readHeader
+by-wired s = refl
 
 -- ---- reading what was written
 
@@ -198,10 +207,8 @@ header-kept s k bs h le =
 
 -- and so is what the reader answers
 pub read-kept : (s : List ℕ) (k : ℕ) (bs : List ℕ) → 34 ≤ k → k + length bs ≤ length s → readHeader (put s k bs) ≡ readHeader s
-unfolding readHeader
 read-kept s k bs h le =
-    ap₂ (λ (n : ℕ) (w : Wired). cond (leb 34 n) (readType (typeOf (w .type)) (w .header) (w .size)) (Refused 1)) (length-put s k bs le)
-    (header-kept s k bs h (omega arith))
+    by-wired (put s k bs) ∙ ap₂ readWired (length-put s k bs le) (header-kept s k bs h (omega arith)) ∙ sym (by-wired s)
 
 pub bytes-withHeader : (s : List ℕ) (h : Header) (t : MessageType) (size : ℕ) → Bytes s → Bytes (withHeader s h t size)
 unfolding withHeader
