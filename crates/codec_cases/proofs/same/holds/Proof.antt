@@ -1,0 +1,29 @@
+-- `codec_cases::same::holds` is safe and ends: i is at most the target's length.
+-- Assumes nothing.
+use Prim.Native.Nat.{_≤_, _-_}
+use borrow.Author.Needs.{needs}
+use lib.ListN.{length}
+use Rattle.codec_cases.proofs.same.holds.Statement.{statement}
+use Rattle.codec_cases.proofs.same.holds.Tie as tie
+
+abbrev Inv-loop : tie.InvT-loop
+Inv-loop target bytes rest i₀ i-end i = i ≤ i-end
+
+abbrev μ-loop : tie.MeasureT-loop
+μ-loop target bytes rest i₀ i-end i = i-end - i
+
+pub holds-spec : {M : Type 1} → statement M
+holds-spec =
+    tie.close
+    (tie.spec
+    Inv-loop
+    μ-loop
+    (λ c. search needs)
+    (λ c. search needs)
+    (λ c. search needs)
+    (λ c. search needs)
+    (λ c. search needs)
+    (λ c. search needs)
+    (λ c. search needs)
+    (λ c. search needs)
+    (λ c. search needs))

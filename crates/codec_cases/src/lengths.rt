@@ -1,0 +1,36 @@
+// Cases of the number of bytes given, and of the length field, which the calls do not look at.
+use crate::codec;
+use crate::frames;
+use crate::frames::F;
+
+// F(1), and six bytes that are no part of it.
+const LONG: [u8; 70] = *b"\
+    \x0B\x02\x00\x40\x00\x00\x00\x00\
+    \x00\x00\x00\x00\x00\x00\x00\x00\
+    \x00\x00\x00\x00\
+    \x00\x00\x00\x00\x00\x00\x00\x01\x00\x01\
+    \x00\x01\x05\x00\
+    \x00\x00\x00\x00\x00\x00\x00\x00\x00\x00\
+    \x00\x00\x00\x80\
+    \x06\x20\x4E\x5D\x80\
+    \x00\x00\x00\x00\x00\x00\x00\x01\
+    \x00\x00\x20\
+    \x00\x08\x00\x02\xA5\x5A";
+
+// The first bytes: refused 1 below 34, a header and a content refused 1 below 64, else the message, which is written again as F(1).
+fn given(s: &[u8]) -> bool {
+    if s.len() < 34 {
+        return codec::refuses(s, 1);
+    }
+    if s.len() < 64 {
+        return codec::reads_header(s) & codec::refuses_content(s, 1);
+    }
+    let want = frames::headed(frames::f_header(1));
+    codec::round(s, want, 0, &F)
+}
+
+// Each length from 0 to 70.
+pub fn length(n: u64) -> bool {
+    let size = (n % 71) as usize;
+    given(&LONG[0..size])
+}
