@@ -1,7 +1,7 @@
-// Cases of the number of bytes given, and of the length field, which the calls do not look at.
-use crate::codec;
-use crate::frames;
-use crate::frames::F;
+// Cases of the number of bytes given.
+use vectors::codec;
+use vectors::frames;
+use vectors::frames::F;
 
 // F(1), and six bytes that are no part of it.
 const LONG: [u8; 70] = *b"\
@@ -17,7 +17,8 @@ const LONG: [u8; 70] = *b"\
     \x00\x00\x20\
     \x00\x08\x00\x02\xA5\x5A";
 
-// The first bytes: refused 1 below 34, a header and a content refused 1 below 64, else the message, which is written again as F(1).
+// The first bytes: refused 1 below 34, a header and a content refused 1 below 64, else the message, which is written again as
+// F(1).
 fn given(s: &[u8]) -> bool {
     if s.len() < 34 {
         return codec::refuses(s, 1);

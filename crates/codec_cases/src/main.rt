@@ -1,16 +1,12 @@
 // Runs the calls of header and announce over cases whose answers paper 01 gives, and writes for each group how many cases it
 // has and how many are wrong.
-mod codec;
-mod frames;
 mod lengths;
 mod reading;
-mod same;
-mod tally;
 mod types;
 mod whole;
 mod writing;
 
-use tally::Tally;
+use vectors::tally::Tally;
 
 enum Group {
     Sequence,

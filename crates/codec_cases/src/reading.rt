@@ -1,17 +1,18 @@
 // Cases of frames that are read and written again. Each function runs the case of a number.
-use crate::codec;
-use crate::frames;
-use crate::frames::F;
-use crate::frames::Message;
 use header::PtpVersion;
+use vectors::codec;
+use vectors::frames;
+use vectors::frames::F;
+use vectors::frames::Message;
 
-// F(1) with n bytes from at on as x says: read as wanted, and written again with those bytes as y says.
+// F(1) with n bytes from at on as x says: read as wanted, and written again over bytes of A5 with those bytes as y says.
 pub fn changed(at: usize, n: usize, x: u64, y: u64, want: Message) -> bool {
     let mut frame = F;
     let mut back = F;
+    back[46] = 0xA5;
     put(&mut frame, at, n, x);
     put(&mut back, at, n, y);
-    codec::round(&frame, want, 0, &back)
+    codec::round(&frame, want, 0xA5, &back)
 }
 
 // The same, written again as it came.

@@ -1,11 +1,11 @@
-// Cases of the types and of the length field.
-use crate::codec;
-use crate::frames;
-use crate::frames::F;
-use crate::frames::Message;
+// Cases of the types, and of the length field, which the calls do not look at.
 use crate::reading;
 use header::MessageType;
 use header::TypeRead;
+use vectors::codec;
+use vectors::frames;
+use vectors::frames::F;
+use vectors::frames::Message;
 
 // The type of a number that names one.
 fn kind_of(number: u64) -> MessageType {
@@ -37,9 +37,10 @@ pub fn nibble(n: u64) -> bool {
     let number = (n % 16) as u8;
     frame[0] = number;
     frame[32] = frames::control(n);
+    frame[46] = 0xA5;
     if frames::known(n) {
         let s: &[u8] = &frame;
-        codec::round(s, message(kind_of(n), 64), 0, s)
+        codec::round(s, message(kind_of(n), 64), 0xA5, s)
     } else {
         codec::refuses(&frame, 2)
     }

@@ -1,7 +1,4 @@
-// Cases of whole frames: of one byte, of different bytes, of every length and of every type.
-use crate::codec;
-use crate::frames;
-use crate::frames::Message;
+// Cases of whole frames: of bytes of one value, and of different bytes.
 use announce::AnnounceMessage;
 use announce::ClockQuality;
 use announce::WireTimestamp;
@@ -9,6 +6,9 @@ use header::Header;
 use header::MessageType;
 use header::PortIdentity;
 use header::PtpVersion;
+use vectors::codec;
+use vectors::frames;
+use vectors::frames::Message;
 
 // A Sync with every field zero, and as it is written again.
 fn zeros() -> bool {

@@ -1,13 +1,13 @@
 // Cases of the writers: what they refuse, and the bytes that they leave.
-use crate::codec;
-use crate::frames;
-use crate::frames::F;
-use crate::same;
 use announce::AnnounceMessage;
 use announce::WireTimestamp;
 use header::Header;
 use header::MessageType;
 use header::PtpVersion;
+use vectors::codec;
+use vectors::frames;
+use vectors::frames::F;
+use vectors::same;
 
 // What lies in the targets.
 const LAY: [u8; 70] = *b"\

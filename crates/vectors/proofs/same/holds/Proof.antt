@@ -1,10 +1,10 @@
--- `codec_cases::same::holds` is safe and ends: i is at most the target's length.
+-- `vectors::same::holds` is safe and ends: i is at most the target's length.
 -- Assumes nothing.
 use Prim.Native.Nat.{_≤_, _-_}
 use borrow.Author.Needs.{needs}
 use lib.ListN.{length}
-use Rattle.codec_cases.proofs.same.holds.Statement.{statement}
-use Rattle.codec_cases.proofs.same.holds.Tie as tie
+use Rattle.vectors.proofs.same.holds.Statement.{statement}
+use Rattle.vectors.proofs.same.holds.Tie as tie
 
 abbrev Inv-loop : tie.InvT-loop
 Inv-loop target bytes rest i₀ i-end i = i ≤ i-end

@@ -1,4 +1,4 @@
-// Whether two values are the same, field by field.
+// Whether bytes and values are as wanted. Values are compared field by field.
 use announce::AnnounceMessage;
 use header::Header;
 
