@@ -4,8 +4,7 @@ use Prim.Native.Nat.{ℕ, _+_, _%_, _≤_, _<_, zero-le}
 use mathlib.Core.Path.{_≡_, refl, sym, ap, ap₂, _∙_}
 use mathlib.Core.List.{List, [], _∷_, _++_}
 use native.Mathlib.Omega.{arith}
-use lib.ListN.{length, take, drop, length-append, length-drop}
-use lib.Seq.{length-take-le}
+use lib.ListN.{length, drop, length-drop}
 use mir.Syntax.{w16}
 use mir.ValLaws.{ofZ-toZ}
 use Rattle.wire.specs.Be.{Bytes, beAt, bytesOf, put}
@@ -24,7 +23,7 @@ use Rattle.announce.specs.declared.AnnounceMessage.{AnnounceMessage}
 use Rattle.announce.specs.declared.AnnounceRead.the-variants.{Done}
 use Rattle.announce.specs.Wire.{announceOf, announceWith, contentAt, readContent, contentWidths, reservedOf, contentValues, contentBytes, withContent}
 use Rattle.announce.specs.Laws.{read-0}
-use Rattle.announce.specs.RoundTrip.{Whole, content-trip, content-part, content-twice, length-withContent, whole-read}
+use Rattle.announce.specs.RoundTrip.{Whole, content-trip, content-part, content-twice, length-withContent}
 
 -- a buffer with an announce of `size` bytes in all at its start: header, then content
 unfoldable pub withMessage : List ℕ → AnnounceMessage → ℕ → List ℕ

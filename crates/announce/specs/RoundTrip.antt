@@ -157,7 +157,8 @@ pub reserved-kept : (s : List ℕ) (at : ℕ) (a : AnnounceMessage) → Whole a 
 unfolding withContent reservedOf fieldsAt contentWidths contentValues
 reserved-kept s at a w b le =
     let r = beAt s (at + 12) 1 in
-    ap (λ (k : ℕ). beAt (withContent s at a) k 1) (simp add-assoc) ∙ ap (λ v. getD v 3 0) (fields-put s at contentWidths (contentValues r a) le (fit r (beAt-bound s (at + 12) 1 b) a w))
+    ap (λ (k : ℕ). beAt (withContent s at a) k 1) (simp add-assoc)
+    ∙ ap (λ v. getD v 3 0) (fields-put s at contentWidths (contentValues r a) le (fit r (beAt-bound s (at + 12) 1 b) a w))
 
 -- the same written twice changes nothing the second time
 pub content-twice : (s : List ℕ) (at : ℕ) (a : AnnounceMessage) → Whole a → Bytes s → at + 30 ≤ length s

@@ -5,14 +5,13 @@ use mathlib.Core.Path.{_≡_, refl, sym, ap, ap₂, _∙_}
 use mathlib.Core.Bool.{Bool, true, false}
 use mathlib.Core.List.{List, [], _∷_, _++_}
 use native.Mathlib.Omega.{arith}
-use borrow.Author.Tests.{eqb-true}
 use lib.Dec.{eqb}
 use lib.ListN.{length, take, drop}
 use mir.Syntax.{w8, w64}
 use mir.ValLaws.{ofZ-toZ}
 use Rattle.wire.specs.Be.{Bytes, beAt, bytesOf, put}
 use Rattle.wire.specs.BeLaws.{beAt-bound, length-put}
-use Rattle.wire.specs.Below.{holdsBelow, below}
+use Rattle.wire.specs.Below.{holdsBelow, agree}
 use Rattle.wire.specs.Flags.{num, bit, pack}
 use Rattle.wire.specs.Layout.{fieldsAt, bytesOfAll, Fit}
 use Rattle.wire.specs.LayoutLaws.{length-bytesOfAll, bytes-fields, bytes-fields-then, fields-put}
@@ -20,9 +19,9 @@ use Rattle.header.specs.declared.Header.{Header}
 use Rattle.header.specs.declared.MessageType.{MessageType}
 use Rattle.header.specs.declared.TypeRead.the-variants.{Known}
 use Rattle.header.specs.Types.{typeOf, typeNumber, controlOf, number-back}
-use Rattle.header.specs.Wire.{portIdentityAt, headerWith, headerOf, headerAt, readType, readHeader, headerWidths, headerValues, headerBytes, withHeader, writeAnswer, writeExit}
+use Rattle.header.specs.Wire.{portIdentityAt, headerWith, headerOf, headerAt, readHeader, headerWidths, headerValues, headerBytes, withHeader, writeAnswer, writeExit}
 use Rattle.header.specs.Laws.{fitted, wrote-0}
-use Rattle.header.specs.RoundTrip.{Wired, fromValues, by-layout, readWired, by-wired, whole-read}
+use Rattle.header.specs.RoundTrip.{fromValues, by-layout, readWired, by-wired, whole-read}
 
 -- the bits of bytes 6 and 7 that have names: 0, 1, 2, 5, 6 and 0 to 6
 abbrev pub named6 : ℕ → ℕ
@@ -57,10 +56,10 @@ abbrev again7 : ℕ → ℕ
 again7 b = pack (bit b 0 ∷ bit b 1 ∷ bit b 2 ∷ bit b 3 ∷ bit b 4 ∷ bit b 5 ∷ bit b 6 ∷ [])
 
 pack6 : (b : ℕ) → b < 256 → again6 b ≡ named6 b
-pack6 b h = eqb-true (again6 b) (named6 b) (below (λ (k : ℕ). eqb (again6 k) (named6 k)) 256 refl b h)
+pack6 = agree again6 named6 256 refl
 
 pack7 : (b : ℕ) → b < 256 → again7 b ≡ named7 b
-pack7 b h = eqb-true (again7 b) (named7 b) (below (λ (k : ℕ). eqb (again7 k) (named7 k)) 256 refl b h)
+pack7 = agree again7 named7 256 refl
 
 -- are those that were read, but for the flags' bytes, the four bytes and the control field
 abbrev again : List ℕ → ℕ → List ℕ
@@ -120,12 +119,12 @@ num-same true false e = absurd (omega arith)
 num-same false true e = absurd (omega arith)
 num-same false false e = refl
 
--- a flag that has a name is the same with the other bits cleared, by a test over every byte
-kept6 : (k : ℕ) → holdsBelow (λ (b : ℕ). eqb (num (bit (named6 b) k)) (num (bit b k))) 256 ≡ true → (b : ℕ) → b < 256 → bit (named6 b) k ≡ bit b k
-kept6 k t b h = num-same (bit (named6 b) k) (bit b k) (eqb-true _ _ (below (λ (b : ℕ). eqb (num (bit (named6 b) k)) (num (bit b k))) 256 t b h))
+-- a flag that is the same in every byte with other bits cleared, as a test over all bytes
+abbrev Keeps : (ℕ → ℕ) → ℕ → Type 0
+Keeps f k = holdsBelow (λ (b : ℕ). eqb (num (bit (f b) k)) (num (bit b k))) 256 ≡ true
 
-kept7 : (k : ℕ) → holdsBelow (λ (b : ℕ). eqb (num (bit (named7 b) k)) (num (bit b k))) 256 ≡ true → (b : ℕ) → b < 256 → bit (named7 b) k ≡ bit b k
-kept7 k t b h = num-same (bit (named7 b) k) (bit b k) (eqb-true _ _ (below (λ (b : ℕ). eqb (num (bit (named7 b) k)) (num (bit b k))) 256 t b h))
+kept : (f : ℕ → ℕ) (k : ℕ) → Keeps f k → (b : ℕ) → b < 256 → bit (f b) k ≡ bit b k
+kept f k t b h = num-same (bit (f b) k) (bit b k) (agree (λ (b : ℕ). num (bit (f b) k)) (λ (b : ℕ). num (bit b k)) 256 t b h)
 
 -- so the numbers written again mean the same header
 same-meaning : (s : List ℕ) → Bytes s
@@ -140,18 +139,18 @@ same-meaning s b =
       «sdo_id» = h .«sdo_id»;
       version = h .version;
       «domain_number» = h .«domain_number»;
-      «alternate_master_flag» = kept6 0 refl (beAt s 6 1) h6 i;
-      «two_step_flag» = kept6 1 refl (beAt s 6 1) h6 i;
-      «unicast_flag» = kept6 2 refl (beAt s 6 1) h6 i;
-      «ptp_profile_specific_1» = kept6 5 refl (beAt s 6 1) h6 i;
-      «ptp_profile_specific_2» = kept6 6 refl (beAt s 6 1) h6 i;
-      leap61 = kept7 0 refl (beAt s 7 1) h7 i;
-      leap59 = kept7 1 refl (beAt s 7 1) h7 i;
-      «current_utc_offset_valid» = kept7 2 refl (beAt s 7 1) h7 i;
-      «ptp_timescale» = kept7 3 refl (beAt s 7 1) h7 i;
-      «time_tracable» = kept7 4 refl (beAt s 7 1) h7 i;
-      «frequency_tracable» = kept7 5 refl (beAt s 7 1) h7 i;
-      «synchronization_uncertain» = kept7 6 refl (beAt s 7 1) h7 i;
+      «alternate_master_flag» = kept named6 0 refl (beAt s 6 1) h6 i;
+      «two_step_flag» = kept named6 1 refl (beAt s 6 1) h6 i;
+      «unicast_flag» = kept named6 2 refl (beAt s 6 1) h6 i;
+      «ptp_profile_specific_1» = kept named6 5 refl (beAt s 6 1) h6 i;
+      «ptp_profile_specific_2» = kept named6 6 refl (beAt s 6 1) h6 i;
+      leap61 = kept named7 0 refl (beAt s 7 1) h7 i;
+      leap59 = kept named7 1 refl (beAt s 7 1) h7 i;
+      «current_utc_offset_valid» = kept named7 2 refl (beAt s 7 1) h7 i;
+      «ptp_timescale» = kept named7 3 refl (beAt s 7 1) h7 i;
+      «time_tracable» = kept named7 4 refl (beAt s 7 1) h7 i;
+      «frequency_tracable» = kept named7 5 refl (beAt s 7 1) h7 i;
+      «synchronization_uncertain» = kept named7 6 refl (beAt s 7 1) h7 i;
       «correction_field» = h .«correction_field»;
       «source_port_identity» = h .«source_port_identity»;
       «sequence_id» = h .«sequence_id»;

@@ -1,4 +1,4 @@
--- Reading what was written gives the same values; what was read and is written again differs only where the reader looks away.
+-- The header as a codec: reading what was written gives the same values.
 -- Assumes nothing.
 use Prim.Native.Nat.{ℕ, _+_, _*_, _/_, _%_, _^_, _≤_, _<_, zero-le}
 use mathlib.Core.Path.{_≡_, refl, sym, ap, ap₂, _∙_}
@@ -12,7 +12,7 @@ use mir.Val.{SFits}
 use mir.ValLaws.{ofZ-fits, toZ-ofZ, toZ-fits}
 use Rattle.wire.specs.Be.{Bytes, beAt, put}
 use Rattle.wire.specs.BeLaws.{beAt-bound, length-put, put-over, bytes-put}
-use Rattle.wire.specs.Codec.{Codec, readAs, writeAs, trip}
+use Rattle.wire.specs.Codec.{Codec, writeAs, trip}
 use Rattle.wire.specs.Flags.{bit-pack, pack-bound}
 use Rattle.wire.specs.Layout.{fieldsAt, Fit}
 use Rattle.wire.specs.LayoutLaws.{length-bytesOfAll, bytes-bytesOfAll, fields-before}

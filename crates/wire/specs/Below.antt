@@ -23,3 +23,7 @@ below p (suc n) t b h = by-place (λ e l. below p n e b l) (eqb b n) refl
     by-place : (holdsBelow p n ≡ true → b < n → p b ≡ true) → (s : Bool) → eqb b n ≡ s → p b ≡ true
     by-place ih true e = rw (eqb-true b n e) (both (p n) (holdsBelow p n) t .0)
     by-place ih false e = ih (both (p n) (holdsBelow p n) t .1) (omega (arith, eqb-false b n e))
+
+-- two functions that agree there
+pub agree : (f g : ℕ → ℕ) (n : ℕ) → holdsBelow (λ (b : ℕ). eqb (f b) (g b)) n ≡ true → (b : ℕ) → b < n → f b ≡ g b
+agree f g n t b h = eqb-true (f b) (g b) (below (λ (b : ℕ). eqb (f b) (g b)) n t b h)

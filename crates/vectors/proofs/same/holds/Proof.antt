@@ -2,7 +2,6 @@
 -- Assumes nothing.
 use Prim.Native.Nat.{_≤_, _-_}
 use borrow.Author.Needs.{needs}
-use lib.ListN.{length}
 use Rattle.vectors.proofs.same.holds.Statement.{statement}
 use Rattle.vectors.proofs.same.holds.Tie as tie
 
