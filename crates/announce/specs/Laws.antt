@@ -3,7 +3,8 @@
 use Prim.Native.Nat.{ℕ, _≤_, _<_}
 use mathlib.Core.List.{List}
 use mathlib.Core.Path.{_≡_, refl, sym}
-use mathlib.Core.Bool.{Bool, true, false}
+use mathlib.Core.Bool.{Bool, true, false, cond}
+use mathlib.Core.Option.{none, some}
 use borrow.Author.Tests.{leb-true, le-leb, lt-leb}
 use lib.Dec.{leb}
 use lib.ListN.{length}
@@ -11,7 +12,7 @@ use Rattle.header.specs.declared.Header.{Header}
 use Rattle.header.specs.Laws.{picked}
 use Rattle.announce.specs.declared.AnnounceMessage.{AnnounceMessage}
 use Rattle.announce.specs.declared.AnnounceRead.the-variants.{Done, Refused}
-use Rattle.announce.specs.Wire.{contentAt, readContent, fitsWire, writeAnswer, writeExit, withContent}
+use Rattle.announce.specs.Wire.{contentAt, readContent, answerOf, fitsWire, writeAnswer, writeExit, withContent}
 
 -- ---- the two ways of a read
 
@@ -23,6 +24,15 @@ module _ (h : Header) (s : List ℕ) where
   pub read-0 : 30 ≤ length s → Done (contentAt h s 0) ≡ readContent h s
   unfolding readContent
   read-0 l = rw (le-leb 30 (length s) l)
+
+-- in the paper's numbers: 1 below 30 bytes, else 0 with the message
+pub content-answer : (h : Header) (s : List ℕ) → answerOf (readContent h s) ≡ cond (leb 30 (length s)) (0, some (contentAt h s 0)) (1, none)
+unfolding readContent
+content-answer h s = by (leb 30 (length s))
+  where
+    by : (b : Bool) → answerOf (cond b (Done (contentAt h s 0)) (Refused 1)) ≡ cond b (0, some (contentAt h s 0)) (1, none)
+    by true = refl
+    by false = refl
 
 -- ---- the three ways of a write
 

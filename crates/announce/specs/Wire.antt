@@ -3,6 +3,7 @@
 use Prim.Native.Nat.{ℕ, _+_}
 use mathlib.Core.List.{List, [], _∷_}
 use mathlib.Core.Bool.{Bool, cond}
+use mathlib.Core.Option.{Option, none, some}
 use lib.Dec.{leb}
 use lib.IntN.{ℤ}
 use lib.ListN.{length}
@@ -47,6 +48,11 @@ contentAt h s at =
 -- fewer than 30 bytes are refused 1
 unfoldable pub readContent : Header → List ℕ → AnnounceRead
 readContent h s = cond (leb 30 (length s)) (Done (contentAt h s 0)) (Refused 1)
+
+-- paper 01's number of each answer, 0 for done, and the value that it holds
+abbrev pub answerOf : AnnounceRead → ℕ × Option AnnounceMessage
+answerOf (Done a) = (0, some a)
+answerOf (Refused n) = (n, none)
 
 -- ---- what is written
 

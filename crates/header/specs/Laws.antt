@@ -4,6 +4,7 @@ use Prim.Native.Nat.{ℕ, _+_, _%_, _≤_, _<_}
 use mathlib.Core.List.{List}
 use mathlib.Core.Path.{_≡_, refl, sym}
 use mathlib.Core.Bool.{Bool, true, false, cond}
+use mathlib.Core.Option.{Option, none, some}
 use native.Mathlib.Omega.{arith}
 use borrow.Author.Tests.{leb-true, leb-false, le-leb, lt-leb}
 use lib.Dec.{leb}
@@ -11,12 +12,13 @@ use lib.ListN.{length}
 use Rattle.header.specs.declared.Header.{Header}
 use Rattle.header.specs.declared.DeserializedHeader.{DeserializedHeader}
 use Rattle.header.specs.declared.MessageType.{MessageType}
+use Rattle.header.specs.declared.TypeRead.{TypeRead}
 use Rattle.header.specs.declared.TypeRead.the-variants.{Known, Reserved}
 use Rattle.header.specs.declared.HeaderRead.the-variants.{Done, Refused}
 use Rattle.wire.specs.Be.{beAt}
 use Rattle.wire.specs.Below.{both}
 use Rattle.header.specs.Types.{typeOf}
-use Rattle.header.specs.Wire.{headerAt, readHeader, fitsWire, fitsOf, writeAnswer, writeExit, withHeader}
+use Rattle.header.specs.Wire.{headerAt, readType, readHeader, answerOf, fitsWire, fitsOf, writeAnswer, writeExit, withHeader}
 
 -- ---- what the wire can hold
 
@@ -59,6 +61,22 @@ module _ (s : List ℕ) where
       → Done (record { header = headerAt s; «message_type» = t; «message_length» = beAt s 2 2 }) ≡ readHeader s
   unfolding readHeader
   read-0 t l e = rw (le-leb 34 (length s) l, e)
+
+-- in the paper's numbers: 1 below 34 bytes, 2 for a reserved type, else 0 with header, type and length
+abbrev typeAnswer : TypeRead → Header → ℕ → ℕ × Option DeserializedHeader
+typeAnswer (Known t) h size = (0, some (record { header = h; «message_type» = t; «message_length» = size }))
+typeAnswer Reserved h size = (2, none)
+
+pub header-answer : (s : List ℕ)
+    → answerOf (readHeader s) ≡ cond (leb 34 (length s)) (typeAnswer (typeOf (beAt s 0 1 % 16)) (headerAt s) (beAt s 2 2)) (1, none)
+unfolding readHeader
+header-answer s = by (leb 34 (length s)) (typeOf (beAt s 0 1 % 16))
+  where
+    by : (b : Bool) (t : TypeRead)
+        → answerOf (cond b (readType t (headerAt s) (beAt s 2 2)) (Refused 1)) ≡ cond b (typeAnswer t (headerAt s) (beAt s 2 2)) (1, none)
+    by true (Known t) = refl
+    by true Reserved = refl
+    by false t = refl
 
 -- what is read has the bytes of a header
 pub read-long : (s : List ℕ) (d : DeserializedHeader) → readHeader s ≡ Done d → 34 ≤ length s

@@ -3,6 +3,7 @@
 use Prim.Native.Nat.{ℕ, zero, suc, _+_, _*_, _/_, _%_}
 use mathlib.Core.List.{List, [], _∷_}
 use mathlib.Core.Bool.{Bool, false, _&&_, cond}
+use mathlib.Core.Option.{Option, none, some}
 use lib.Dec.{leb}
 use lib.ListN.{length}
 use lib.IntN.{ℤ}
@@ -14,6 +15,7 @@ use Rattle.wire.specs.Layout.{bytesOfAll}
 use Rattle.header.specs.Types.{typeOf, typeNumber, controlOf}
 use Rattle.header.specs.declared.PortIdentity.{PortIdentity}
 use Rattle.header.specs.declared.Header.{Header}
+use Rattle.header.specs.declared.DeserializedHeader.{DeserializedHeader}
 use Rattle.header.specs.declared.MessageType.{MessageType}
 use Rattle.header.specs.declared.TypeRead.{TypeRead}
 use Rattle.header.specs.declared.TypeRead.the-variants.{Known, Reserved}
@@ -70,6 +72,11 @@ readType Reserved h size = Refused 2
 -- fewer than 34 bytes are refused 1 before that
 unfoldable pub readHeader : List ℕ → HeaderRead
 readHeader s = cond (leb 34 (length s)) (readType (typeOf (beAt s 0 1 % 16)) (headerAt s) (beAt s 2 2)) (Refused 1)
+
+-- paper 01's number of each answer, 0 for done, and the value that it holds
+abbrev pub answerOf : HeaderRead → ℕ × Option DeserializedHeader
+answerOf (Done d) = (0, some d)
+answerOf (Refused n) = (n, none)
 
 -- ---- what is written
 
