@@ -1,3 +1,4 @@
+-- The definitions and laws of the announce message.
 pub mod Wire
 pub mod Laws
 pub mod RoundTrip

@@ -32,6 +32,7 @@ pub struct AnnounceMessage {
     pub time_source: u8,
 }
 
+// What a reader of contents answers: the message, or the number of the refusal.
 pub enum AnnounceRead {
     Done(AnnounceMessage),
     Refused(u8),

@@ -55,6 +55,7 @@ pub enum MessageType {
     Management,
 }
 
+// What a number says as a type.
 pub enum TypeRead {
     Known(MessageType),
     Reserved,
@@ -67,14 +68,16 @@ pub struct DeserializedHeader {
     pub message_length: u16,
 }
 
+// What a reader of headers answers: all that the bytes hold, or the number of the refusal.
 pub enum HeaderRead {
     Done(DeserializedHeader),
     Refused(u8),
 }
 
-// How many bytes a header takes, and how many may follow it.
+// How many bytes a header takes.
 pub const HEADER_SIZE: usize = 34;
 
+// How many bytes may follow it, so that the length field can tell the whole.
 const CONTENT_LIMIT: usize = 65501;
 
 // The widths of the fields on the wire.
