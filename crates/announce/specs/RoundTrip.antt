@@ -5,6 +5,7 @@ use mathlib.Core.Path.{_≡_, refl, sym, ap, ap₂, _∙_}
 use mathlib.Core.List.{List, [], _∷_}
 use native.Mathlib.Nat.{add-assoc, add-zero}
 use native.Mathlib.Omega.{arith}
+use borrow.Author.Tests.{leb-true}
 use lib.IntN.{ℤ}
 use lib.ListN.{length, getD, drop}
 use mir.Syntax.{w16}
@@ -15,11 +16,12 @@ use Rattle.wire.specs.BeLaws.{beAt-bound, beAt-drop, length-bytesOf, length-put
 use Rattle.wire.specs.Codec.{Codec, readAs, writeAs, trip}
 use Rattle.wire.specs.Layout.{fieldsAt, Fit}
 use Rattle.wire.specs.LayoutLaws.{length-bytesOfAll, fields-put, fields-before, fields-after}
+use Rattle.wire.specs.Write.{done}
 use Rattle.header.specs.declared.Header.{Header}
 use Rattle.announce.specs.declared.AnnounceMessage.{AnnounceMessage}
 use Rattle.announce.specs.declared.AnnounceRead.the-variants.{Done}
-use Rattle.announce.specs.Wire.{announceWith, announceOf, contentAt, readContent, contentWidths, reservedOf, contentValues, contentBytes, withContent, writeAnswer, writeExit}
-use Rattle.announce.specs.Laws.{read-0, done}
+use Rattle.announce.specs.Wire.{announceWith, announceOf, contentAt, readContent, contentWidths, reservedOf, contentValues, contentBytes, withContent, fitsOf, writeAnswer, writeExit}
+use Rattle.announce.specs.Laws.{read-0}
 
 -- every field of the content is a value of its type
 pub record Typed (a : AnnounceMessage) : Type 0 where
@@ -98,10 +100,10 @@ length-withContent s at a le = length-put s at (contentBytes (reservedOf s at) a
 -- of the calls: where the writer answers 0, the reader gives back what was written
 pub calls-trip : (s : List ℕ) (a : AnnounceMessage) → Typed a → Bytes s → writeAnswer s a ≡ 0 → readContent (a .header) (writeExit s a) ≡ Done a
 calls-trip s a ty b e =
-    let d = done s a e in
+    let d = done (fitsOf a) 30 s (withContent s 0 a) e in
     let out = withContent s 0 a in
     let room : 30 ≤ length out = omega (arith, length-withContent s 0 a (d .room), d .room) in
-    rw (d .exit) (sym (read-0 (a .header) out room) ∙ ap Done (content-trip s 0 a (record { seconds = d .fit; typed = ty }) b zero-le))
+    rw (d .exit) (sym (read-0 (a .header) out room) ∙ ap Done (content-trip s 0 a (record { seconds = leb-true _ _ (d .fit); typed = ty }) b zero-le))
 
 -- ---- what is read
 

@@ -11,8 +11,8 @@ use mir.Syntax.{w16}
 use mir.Val.{toZ, ofZ}
 use Rattle.wire.specs.Be.{beAt, put}
 use Rattle.wire.specs.Layout.{bytesOfAll}
+use Rattle.wire.specs.Write.{writeNumber, writeBuffer}
 use Rattle.header.specs.declared.Header.{Header}
-use Rattle.header.specs.Wire.{onZero}
 use Rattle.announce.specs.declared.AnnounceMessage.{AnnounceMessage}
 use Rattle.announce.specs.declared.AnnounceRead.{AnnounceRead}
 use Rattle.announce.specs.declared.AnnounceRead.the-variants.{Done, Refused}
@@ -84,10 +84,13 @@ withContent s at a = put s at (contentBytes (reservedOf s at) a)
 abbrev pub fitsWire : ℕ → Bool
 fitsWire seconds = leb seconds 0xFFFFFFFFFFFF
 
--- 15 where the wire cannot hold it, then 1 where the buffer is short, else 0
-unfoldable pub writeAnswer : List ℕ → AnnounceMessage → ℕ
-writeAnswer s a = cond (fitsWire (a .«origin_timestamp» .seconds)) (cond (leb 30 (length s)) 0 1) 15
+-- the same of a message
+abbrev pub fitsOf : AnnounceMessage → Bool
+fitsOf a = fitsWire (a .«origin_timestamp» .seconds)
 
--- the buffer afterwards: a refusal leaves it as it lay
-unfoldable pub writeExit : List ℕ → AnnounceMessage → List ℕ
-writeExit s a = onZero (writeAnswer s a) (withContent s 0 a) s
+-- the answer of the writer, and the buffer afterwards
+abbrev pub writeAnswer : List ℕ → AnnounceMessage → ℕ
+writeAnswer s a = writeNumber (fitsOf a) 30 s
+
+abbrev pub writeExit : List ℕ → AnnounceMessage → List ℕ
+writeExit s a = writeBuffer (fitsOf a) 30 s (withContent s 0 a)

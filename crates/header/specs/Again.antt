@@ -15,12 +15,13 @@ use Rattle.wire.specs.Below.{holdsBelow, agree}
 use Rattle.wire.specs.Flags.{num, bit, pack}
 use Rattle.wire.specs.Layout.{fieldsAt, bytesOfAll, Fit}
 use Rattle.wire.specs.LayoutLaws.{length-bytesOfAll, bytes-fields, bytes-fields-then, fields-put}
+use Rattle.wire.specs.Write.{wrote-0}
 use Rattle.header.specs.declared.Header.{Header}
 use Rattle.header.specs.declared.MessageType.{MessageType}
 use Rattle.header.specs.declared.TypeRead.the-variants.{Known}
 use Rattle.header.specs.Types.{typeOf, typeNumber, controlOf, number-back}
-use Rattle.header.specs.Wire.{portIdentityAt, headerWith, headerOf, headerAt, readHeader, headerWidths, headerValues, headerBytes, withHeader, writeAnswer, writeExit}
-use Rattle.header.specs.Laws.{fitted, wrote-0}
+use Rattle.header.specs.Wire.{portIdentityAt, headerWith, headerOf, headerAt, readHeader, headerWidths, headerValues, headerBytes, withHeader, fitsOf, writeAnswer, writeExit}
+use Rattle.header.specs.Laws.{fitted}
 use Rattle.header.specs.RoundTrip.{fromValues, by-layout, readWired, by-wired, whole-read}
 
 -- the bits of bytes 6 and 7 that have names: 0, 1, 2, 5, 6 and 0 to 6
@@ -107,7 +108,7 @@ calls-again s target t b le e long room =
     let content = beAt s 2 2 - 34 in
     let w = whole-read s b in
     let fits = fitted _ _ _ content (record { sdo-fits = w .sdo; major-fits = w .major; minor-fits = w .minor; content-fits = omega (arith, beAt-bound s 2 2 b) }) in
-    let wrote = wrote-0 target (headerAt s) t content fits room in
+    let wrote = wrote-0 (fitsOf (headerAt s) content) 34 target (withHeader target (headerAt s) t (content + 34)) fits room in
     let size : content + 34 ≡ beAt s 2 2 = omega arith in
     (sym (wrote .0), sym (wrote .1) ∙ ap (λ (n : ℕ). put target 0 (headerBytes (headerAt s) t n)) size ∙ ap (put target 0) (header-again s t b le e))
 

@@ -1,8 +1,8 @@
--- The laws of the header's definitions that its code leans on: what a fit says, and each way out of the two calls.
+-- What a fit of the header says, and each way out of its reader.
 -- Assumes nothing.
-use Prim.Native.Nat.{ℕ, _+_, _%_, _≤_, _<_}
+use Prim.Native.Nat.{ℕ, _%_, _≤_, _<_}
 use mathlib.Core.List.{List}
-use mathlib.Core.Path.{_≡_, refl, sym}
+use mathlib.Core.Path.{_≡_, refl}
 use mathlib.Core.Bool.{Bool, true, false, cond}
 use mathlib.Core.Option.{Option, none, some}
 use native.Mathlib.Omega.{arith}
@@ -18,7 +18,7 @@ use Rattle.header.specs.declared.HeaderRead.the-variants.{Done, Refused}
 use Rattle.wire.specs.Be.{beAt}
 use Rattle.wire.specs.Below.{both}
 use Rattle.header.specs.Types.{typeOf}
-use Rattle.header.specs.Wire.{headerAt, readType, readHeader, answerOf, fitsWire, fitsOf, writeAnswer, writeExit, withHeader}
+use Rattle.header.specs.Wire.{headerAt, readType, readHeader, answerOf, fitsWire}
 
 -- ---- what the wire can hold
 
@@ -88,42 +88,3 @@ read-long s d e = by (leb 34 (length s)) refl
         let r = read-1 s (leb-false 34 (length s) f) in
         let z : _≡_ {A = ℕ} 0 1 = cc in
         absurd (omega arith)
-
--- ---- the three ways of a write
-
--- the answer and the buffer afterwards
-abbrev pub Wrote : List ℕ → Header → MessageType → ℕ → ℕ → List ℕ → Type 0
-Wrote s h t content r out = (r ≡ writeAnswer s h content) × (out ≡ writeExit s h t content)
-
-module _ (s : List ℕ) (h : Header) (t : MessageType) (content : ℕ) where
-  pub wrote-15 : fitsOf h content ≡ false → Wrote s h t content 15 s
-  unfolding writeAnswer writeExit
-  wrote-15 e = rw e (refl, refl)
-
-  pub wrote-1 : fitsOf h content ≡ true → length s < 34 → Wrote s h t content 1 s
-  unfolding writeAnswer writeExit
-  wrote-1 e l = rw (e, lt-leb 34 (length s) l) (refl, refl)
-
-  pub wrote-0 : fitsOf h content ≡ true → 34 ≤ length s → Wrote s h t content 0 (withHeader s h t (content + 34))
-  unfolding writeAnswer writeExit
-  wrote-0 e l = rw (e, le-leb 34 (length s) l) (refl, refl)
-
--- ---- what an answer of 0 says
-
-pub record WroteAll (s : List ℕ) (h : Header) (t : MessageType) (content : ℕ) : Type 0 where
-  pub fit : Fitting (h .«sdo_id») (h .version .major) (h .version .minor) content
-  pub room : 34 ≤ length s
-  pub exit : writeExit s h t content ≡ withHeader s h t (content + 34)
-
--- an answer of 0 passed both tests
-pub picked : (a b : Bool) → _≡_ {A = ℕ} (cond a (cond b 0 1) 15) 0 → (a ≡ true) × (b ≡ true)
-picked true true e = (refl, refl)
-picked true false e = absurd (omega arith)
-picked false b e = absurd (omega arith)
-
-pub done : (s : List ℕ) (h : Header) (t : MessageType) (content : ℕ) → writeAnswer s h content ≡ 0 → WroteAll s h t content
-unfolding writeAnswer
-done s h t content e =
-    let p = picked (fitsOf h content) (leb 34 (length s)) e in
-    let l = leb-true 34 (length s) (p .1) in
-    record { fit = fitting _ _ _ _ (p .0); room = l; exit = sym (wrote-0 s h t content (p .0) l .1) }

@@ -16,13 +16,14 @@ use Rattle.wire.specs.Codec.{Codec, writeAs, trip}
 use Rattle.wire.specs.Flags.{bit-pack, pack-bound}
 use Rattle.wire.specs.Layout.{fieldsAt, Fit}
 use Rattle.wire.specs.LayoutLaws.{length-bytesOfAll, bytes-bytesOfAll, fields-before}
+use Rattle.wire.specs.Write.{done}
 use Rattle.header.specs.declared.Header.{Header}
 use Rattle.header.specs.declared.MessageType.{MessageType}
 use Rattle.header.specs.declared.HeaderRead.{HeaderRead}
 use Rattle.header.specs.declared.HeaderRead.the-variants.{Done, Refused}
 use Rattle.header.specs.Types.{typeOf, typeNumber, controlOf, number-le, control-le, type-back}
-use Rattle.header.specs.Wire.{headerWith, headerOf, headerAt, headerWidths, headerValues, headerBytes, bits6, bits7, withHeader, readType, readHeader, writeAnswer, writeExit}
-use Rattle.header.specs.Laws.{done, read-0}
+use Rattle.header.specs.Wire.{headerWith, headerOf, headerAt, headerWidths, headerValues, headerBytes, bits6, bits7, withHeader, readType, readHeader, fitsOf, writeAnswer, writeExit}
+use Rattle.header.specs.Laws.{fitting, read-0}
 
 -- every field is a value of its type, as far as the wire shows
 pub record Typed (h : Header) : Type 0 where
@@ -166,8 +167,8 @@ header-trip s h t size w hs le =
 pub calls-trip : (s : List ℕ) (h : Header) (t : MessageType) (content : ℕ) → Typed h → writeAnswer s h content ≡ 0
     → readHeader (writeExit s h t content) ≡ Done (record { header = h; «message_type» = t; «message_length» = content + 34 })
 calls-trip s h t content ty e =
-    let d = done s h t content e in
-    let f = d .fit in
+    let d = done (fitsOf h content) 34 s (withHeader s h t (content + 34)) e in
+    let f = fitting _ _ _ _ (d .fit) in
     rw (d .exit)
     (header-trip s h t (content + 34) (record { sdo = f .sdo-fits; major = f .major-fits; minor = f .minor-fits; typed = ty }) (omega arith) (d .room))
 

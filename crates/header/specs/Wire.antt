@@ -1,6 +1,6 @@
 -- The header of IEEE 1588-2019, 13.3, as paper 01 lists its 34 bytes: what is read, and what is written.
 -- Assumes nothing.
-use Prim.Native.Nat.{ℕ, zero, suc, _+_, _*_, _/_, _%_}
+use Prim.Native.Nat.{ℕ, _+_, _*_, _/_, _%_}
 use mathlib.Core.List.{List, [], _∷_}
 use mathlib.Core.Bool.{Bool, false, _&&_, cond}
 use mathlib.Core.Option.{Option, none, some}
@@ -12,6 +12,7 @@ use mir.Val.{toZ, ofZ}
 use Rattle.wire.specs.Be.{beAt, put}
 use Rattle.wire.specs.Flags.{bit, pack}
 use Rattle.wire.specs.Layout.{bytesOfAll}
+use Rattle.wire.specs.Write.{writeNumber, writeBuffer}
 use Rattle.header.specs.Types.{typeOf, typeNumber, controlOf}
 use Rattle.header.specs.declared.PortIdentity.{PortIdentity}
 use Rattle.header.specs.declared.Header.{Header}
@@ -119,14 +120,9 @@ fitsWire sdo major minor content = leb sdo 0xFFF && (leb major 15 && (leb minor 
 abbrev pub fitsOf : Header → ℕ → Bool
 fitsOf h content = fitsWire (h .«sdo_id») (h .version .major) (h .version .minor) content
 
--- 15 where the wire cannot hold it, then 1 where the buffer is short, else 0
-unfoldable pub writeAnswer : List ℕ → Header → ℕ → ℕ
-writeAnswer s h content = cond (fitsOf h content) (cond (leb 34 (length s)) 0 1) 15
+-- the answer of the writer, and the buffer afterwards
+abbrev pub writeAnswer : List ℕ → Header → ℕ → ℕ
+writeAnswer s h content = writeNumber (fitsOf h content) 34 s
 
-abbrev pub onZero : ℕ → List ℕ → List ℕ → List ℕ
-onZero zero a b = a
-onZero (suc n) a b = b
-
--- the buffer afterwards: a refusal leaves it as it lay
-unfoldable pub writeExit : List ℕ → Header → MessageType → ℕ → List ℕ
-writeExit s h t content = onZero (writeAnswer s h content) (withHeader s h t (content + 34)) s
+abbrev pub writeExit : List ℕ → Header → MessageType → ℕ → List ℕ
+writeExit s h t content = writeBuffer (fitsOf h content) 34 s (withHeader s h t (content + 34))

@@ -1,4 +1,4 @@
-// Stands in for the crate's datastructures/messages/delay_req.rs, after IEEE 1588-2019, 13.6.
+// Stands in for the crate's datastructures/messages/delay_req.rs, which the comparison does not reach.
 
 use crate::datastructures::{common::WireTimestamp, WireFormat, WireFormatError};
 

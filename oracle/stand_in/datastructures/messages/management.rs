@@ -1,4 +1,4 @@
-// Stands in for the crate's datastructures/messages/management.rs, after IEEE 1588-2019, 15.4.1.
+// Stands in for the crate's datastructures/messages/management.rs, which the comparison does not reach.
 
 use crate::datastructures::{common::PortIdentity, WireFormat, WireFormatError};
 

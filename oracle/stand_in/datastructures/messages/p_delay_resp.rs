@@ -1,4 +1,4 @@
-// Stands in for the crate's datastructures/messages/p_delay_resp.rs, after IEEE 1588-2019, 13.10.
+// Stands in for the crate's datastructures/messages/p_delay_resp.rs, which the comparison does not reach.
 
 use crate::datastructures::{
     common::{PortIdentity, WireTimestamp},

@@ -1,4 +1,4 @@
-// Stands in for the crate's datastructures/messages/p_delay_resp_follow_up.rs, after IEEE 1588-2019, 13.11.
+// Stands in for the crate's datastructures/messages/p_delay_resp_follow_up.rs, which the comparison does not reach.
 
 use crate::datastructures::{
     common::{PortIdentity, WireTimestamp},

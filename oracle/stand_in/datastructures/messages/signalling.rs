@@ -1,4 +1,4 @@
-// Stands in for the crate's datastructures/messages/signalling.rs, after IEEE 1588-2019, 13.12.
+// Stands in for the crate's datastructures/messages/signalling.rs, which the comparison does not reach.
 
 use crate::datastructures::{common::PortIdentity, WireFormat, WireFormatError};
 
