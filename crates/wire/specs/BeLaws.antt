@@ -3,13 +3,13 @@
 use Prim.Native.Nat.{ℕ, zero, suc, _+_, _*_, _-_, _/_, _%_, _^_, _≤_, _<_}
 use mathlib.Core.Path.{_≡_, refl, sym, ap, ap₂, _∙_, subst}
 use mathlib.Core.List.{List, [], _∷_, _++_, append-assoc, append-nil}
-use native.Mathlib.Nat.{not-suc-le-zero, add-assoc, pow-le-pow-right, lt-of-lt-of-le, pow-suc, add-zero, mod-one, one-le-pow, le-refl}
+use native.Mathlib.Nat.{not-suc-le-zero, add-assoc, pow-le-pow-right, lt-of-lt-of-le, pow-suc, add-zero, zero-add, mod-one, one-le-pow, le-refl}
 use native.Mathlib.Numerals.{add-one}
 use native.Mathlib.Omega.{arith}
 use lib.Arith.{digits-lt, digits-div, digits-mod, mod-mul}
 use lib.Dec.{lit<}
 use lib.ListN.{length, getD, set, take, drop, length-append, length-drop, length-set, take-append-drop, List·getD-append}
-use lib.Seq.{length-take-le, take-suc, getD-drop, getD-at, take-at, drop-at, take-set-le, drop-set-lt, getD-take, getD-append-add, drop-cons, getD-set-same, drop-append-add, drop-drop}
+use lib.Seq.{take-length, take-add, take-take, drop-append-le, length-take-le, take-suc, getD-drop, getD-at, take-at, drop-at, take-set-le, drop-set-lt, getD-take, getD-append-add, drop-cons, getD-set-same, drop-append-add, drop-drop}
 use Rattle.wire.specs.Be.{Bytes, beAt, bytesOf, put}
 
 -- ---- a number of n bytes
@@ -191,3 +191,28 @@ unfolding beAt
 beAt-drop s a at zero = refl
 beAt-drop s a at (suc n) =
     ap₂ (λ (x y : ℕ). x * 256 + y) (beAt-drop s a at n) (getD-drop a s (at + n) 0 ∙ ap (λ (i : ℕ). getD s i 0) (sym (add-assoc a at n)))
+
+pub beAt-take : (s : List ℕ) (k at n : ℕ) → at + n ≤ k → beAt (take k s) at n ≡ beAt s at n
+beAt-take s k at n le = beAt-same (take k s) s at n (λ i lo hi. getD-take k s i 0 (omega arith))
+
+put-drop : (s : List ℕ) (a at : ℕ) (bs : List ℕ) → take a s ++ put (drop a s) at bs ≡ put s (a + at) bs
+unfolding put
+put-drop s a at bs = rw (take-add a at s, drop-drop (at + length bs) a s, add-assoc a at (length bs)) (simp append-assoc)
+
+put-take : (s : List ℕ) (k at : ℕ) (bs : List ℕ) → at + length bs ≤ k → k ≤ length s → put (take k s) at bs ++ drop k s ≡ put s at bs
+unfolding put
+put-take s k at bs le lk =
+    let n = at + length bs in
+    let e : drop n (take k s) ++ drop k s ≡ drop n s =
+    sym (drop-append-le n (take k s) (drop k s) (rw (length-take-le k s lk) le)) ∙ ap (drop n) (take-append-drop k s) in
+    rw (take-take at k s (omega arith), append-assoc) (ap (λ (r : List ℕ). take at s ++ bs ++ r) e)
+
+-- what a callee put into the k bytes from a on, as the whole comes back from `&mut s[a..a + k]`
+pub put-part : (s : List ℕ) (a k at : ℕ) (bs : List ℕ) → at + length bs ≤ k → a + k ≤ length s
+    → take a s ++ (put (take k (drop a s)) at bs ++ drop k (drop a s)) ≡ put s (a + at) bs
+put-part s a k at bs le lk = rw (put-take (drop a s) k at bs le (simp length-drop (omega arith))) (put-drop s a at bs)
+
+-- a copy to the start of a part
+pub put-copy : (s bs : List ℕ) → take (length bs) bs ++ drop (length bs) s ≡ put s 0 bs
+unfolding put
+put-copy s bs = rw (take-length bs, zero-add (length bs))

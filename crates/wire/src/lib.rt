@@ -87,6 +87,14 @@ pub fn put_fields(s: &mut [u8], at: usize, widths: &[usize], values: &[u64])
     }
 }
 
+// Writes a run of bytes from at on. Every other byte stays.
+pub fn put_bytes(s: &mut [u8], at: usize, bs: &[u8])
+    requires { ⌜ at + length (now bs) ≤ length (now s) ⌝ }
+    ensures { λ _. ⌜ now (s .exit) ≡ put (now (s .entry)) at (now (bs .entry)) ⌝ }
+{
+    bytes::copy(bs, &mut s[at..]);
+}
+
 // The signed number of some bits, and the bits of a signed number, in two's complement.
 
 pub fn i8_of(x: u8) -> i8

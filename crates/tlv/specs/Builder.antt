@@ -1,0 +1,41 @@
+-- The bytes of an entry, and what a builder answers and writes.
+-- Assumes nothing.
+use Prim.Native.Nat.{ℕ, zero, suc, _+_, _%_}
+use mathlib.Core.List.{List, _++_}
+use mathlib.Core.Bool.{Bool, false, cond}
+use lib.ListN.{length}
+use lib.Dec.{leb, eqb}
+use Rattle.wire.specs.Be.{bytesOf, put}
+use Rattle.wire.specs.Write.{writeNumber, writeBuffer}
+use Rattle.tlv.specs.declared.Added.{Added}
+use Rattle.tlv.specs.declared.Added.the-variants.{Done, Refused}
+
+-- u16 type, u16 length, value
+unfoldable pub entryBytes : ℕ → List ℕ → List ℕ
+entryBytes t v = bytesOf 2 t ++ bytesOf 2 (length v) ++ v
+
+-- what the wire can hold: a value of even length, of 65,534 bytes at most
+unfoldable pub entryFits : ℕ → Bool
+entryFits n = cond (eqb (n % 2) 0) (leb n 65534) false
+
+-- the answer of the entry writer, and the buffer afterwards
+abbrev pub entryAnswer : List ℕ → List ℕ → ℕ
+entryAnswer s v = writeNumber (entryFits (length v)) (length v + 4) s
+
+abbrev pub entryExit : List ℕ → ℕ → List ℕ → List ℕ
+entryExit s t v = writeBuffer (entryFits (length v)) (length v + 4) s (put s 0 (entryBytes t v))
+
+-- the number that the builder answers, and the buffer afterwards: an entry after the `used` bytes that are there
+abbrev pub addAnswer : List ℕ → ℕ → List ℕ → ℕ
+addAnswer s used v = writeNumber (entryFits (length v)) (used + (length v + 4)) s
+
+abbrev pub addExit : List ℕ → ℕ → ℕ → List ℕ → List ℕ
+addExit s used t v = writeBuffer (entryFits (length v)) (used + (length v + 4)) s (put s used (entryBytes t v))
+
+-- the builder afterwards, or the refusal
+abbrev pub added : ℕ → ℕ → Added
+added zero used = Done (record { used = used })
+added (suc n) used = Refused (suc n)
+
+unfoldable pub addRead : List ℕ → ℕ → List ℕ → Added
+addRead s used v = added (addAnswer s used v) (used + (length v + 4))

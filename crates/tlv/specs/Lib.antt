@@ -1,0 +1,4 @@
+pub mod Tlv
+pub mod Kind
+pub mod Builder
+pub mod Laws
