@@ -1,0 +1,80 @@
+-- A frame, checked in the order of paper 01, and a frame as it is written.
+-- Assumes nothing.
+use Prim.Native.Nat.{ℕ, zero, suc, _+_, _-_, _%_}
+use mathlib.Core.List.{List}
+use mathlib.Core.Bool.{Bool, false, cond}
+use mathlib.Core.Option.{Option, none, some}
+use lib.ListN.{length, take, drop}
+use lib.Dec.{eqb, leb}
+use Rattle.wire.specs.Be.{beAt, put}
+use Rattle.wire.specs.Write.{writeNumber, writeBuffer}
+use Rattle.header.specs.declared.TypeRead.{TypeRead}
+use Rattle.header.specs.declared.TypeRead.the-variants.{Known, Reserved}
+use Rattle.header.specs.Types.{typeOf, typeNumber}
+use Rattle.header.specs.Wire as header
+use Rattle.announce.specs.declared.AnnounceMessage.{AnnounceMessage}
+use Rattle.announce.specs.Wire as announce
+use Rattle.announce.specs.Message.{withMessage}
+use Rattle.tlv.specs.Tlv.{checkList, wholeEntries}
+use Rattle.frame.specs.declared.Message.{Message}
+use Rattle.frame.specs.declared.FrameRead.{FrameRead}
+use Rattle.frame.specs.declared.FrameRead.the-variants.{Done, Refused}
+
+-- ---- reading
+
+-- the length field, and the TLVs: bytes 64 up to the length
+abbrev pub sizeAt : List ℕ → ℕ
+sizeAt s = beAt s 2 2
+
+abbrev pub tlvsAt : List ℕ → List ℕ
+tlvsAt s = take (sizeAt s - 64) (drop 64 s)
+
+-- unknown type: 2; length field below 34: 3; above the bytes given: 1; no announce: 5; length below 64: 1
+abbrev pub refusalOfType : TypeRead → ℕ → ℕ → ℕ
+refusalOfType Reserved size given = 2
+refusalOfType (Known t) size given =
+    cond (leb 34 size) (cond (leb size given) (cond (eqb (typeNumber t) 11) (cond (leb 64 size) 0 1) 5) 1) 3
+
+unfoldable pub refusalOf : ℕ → ℕ → ℕ → ℕ
+refusalOf number size given = refusalOfType (typeOf number) size given
+
+abbrev pub orElse : ℕ → ℕ → ℕ
+orElse zero m = m
+orElse (suc n) m = suc n
+
+-- fewer than 34 bytes: 1; then those; then the TLVs'
+unfoldable pub frameRefusal : List ℕ → ℕ
+frameRefusal s = cond (leb 34 (length s)) (orElse (refusalOf (beAt s 0 1 % 16) (sizeAt s) (length s)) (checkList (tlvsAt s))) 1
+
+-- the announce with its header, and where its TLVs begin and end
+abbrev pub messageAt : List ℕ → Message
+messageAt s = record { announce = announce.contentAt (header.headerAt s) s 34; «tlv_start» = 64; «tlv_end» = sizeAt s }
+
+abbrev pub onZero : ℕ → Message → FrameRead
+onZero zero m = Done m
+onZero (suc n) m = Refused (suc n)
+
+unfoldable pub readFrame : List ℕ → FrameRead
+readFrame s = onZero (frameRefusal s) (messageAt s)
+
+-- in the paper's numbers: 0 with the message, or the number alone
+abbrev pub answerOf : FrameRead → ℕ × Option Message
+answerOf (Done m) = (0, some m)
+answerOf (Refused n) = (n, none)
+
+-- ---- writing
+
+-- what the wire can hold: header and content fit, the whole is at most 65,535 bytes, the TLVs are whole even entries
+unfoldable pub fitsOf : AnnounceMessage → List ℕ → Bool
+fitsOf a tlvs = cond (header.fitsOf (a .header) (length tlvs + 30)) (cond (announce.fitsOf a) (wholeEntries tlvs) false) false
+
+-- a buffer with the message at its start, and every other byte as it lay
+unfoldable pub withFrame : List ℕ → AnnounceMessage → List ℕ → List ℕ
+withFrame s a tlvs = put (withMessage s a (length tlvs + 64)) 64 tlvs
+
+-- the answer of the writer, and the buffer afterwards
+abbrev pub writeAnswer : List ℕ → AnnounceMessage → List ℕ → ℕ
+writeAnswer s a tlvs = writeNumber (fitsOf a tlvs) (length tlvs + 64) s
+
+abbrev pub writeExit : List ℕ → AnnounceMessage → List ℕ → List ℕ
+writeExit s a tlvs = writeBuffer (fitsOf a tlvs) (length tlvs + 64) s (withFrame s a tlvs)
