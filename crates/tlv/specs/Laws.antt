@@ -1,7 +1,7 @@
 -- Each way out of a read, what an entry that was read says, and the check of a list by its first entry.
 -- Assumes nothing.
 use Prim.Native.Nat.{ℕ, zero, suc, _+_, _-_, _%_, _<_, _≤_}
-use mathlib.Core.Path.{_≡_, refl, ap}
+use mathlib.Core.Path.{_≡_, refl, sym, ap, _∙_}
 use mathlib.Core.Bool.{Bool, true, false, cond}
 use mathlib.Core.List.{List}
 use native.Mathlib.Omega.{arith}
@@ -48,3 +48,67 @@ module _ (least : ℕ) (s : List ℕ) (at : ℕ) where
   pub read-entry : at < length s → least ≤ left → len % 2 ≡ 0 → len + 4 ≤ left → found ≡ entryAt least s at
   unfolding entryAt
   read-entry h k e p = rw (lt-leb (length s) at h, le-leb least left k, eq-eqb (len % 2) 0 e, le-leb (len + 4) left p)
+
+-- ---- an entry that was read
+
+-- what it says: the bytes before its value are there, and the value ends within the list
+pub record Read (least : ℕ) (s : List ℕ) (at t b l : ℕ) (next : TlvCursor) : Type 0 where
+  pub type : t ≡ beAt s at 2
+  pub start : b ≡ at + 4
+  pub size : l ≡ beAt s (at + 2) 2
+  pub after : next .at ≡ at + 4 + l
+  pub even : l % 2 ≡ 0
+  pub enough : least ≤ length s - at
+  pub within : at + 4 + l ≤ length s
+
+pub entry-read : (least : ℕ) (s : List ℕ) (at t b l : ℕ) (next : TlvCursor) → entryAt least s at ≡ Entry t b l next → Read least s at t b l next
+unfolding entryAt
+entry-read least s at t b l next e =
+    by-tests (leb (length s) at) (leb least (left least s at)) (eqb (len least s at % 2) 0) (leb (len least s at + 4) (left least s at)) refl refl refl refl e
+  where
+    by-tests : (b₁ b₂ b₃ b₄ : Bool) → leb (length s) at ≡ b₁ → leb least (left least s at) ≡ b₂ → eqb (len least s at % 2) 0 ≡ b₃ → leb (len least s at + 4) (left least s at) ≡ b₄
+        → cond b₁ End (cond b₂ (cond b₃ (cond b₄ (found least s at) (Refused 1)) (Refused 4)) (Refused 1)) ≡ Entry t b l next → Read least s at t b l next
+    by-tests true b₂ b₃ b₄ e₁ e₂ e₃ e₄ e = absurd (let z : _≡_ {A = ℕ} 0 1 = cc in omega arith)
+    by-tests false false b₃ b₄ e₁ e₂ e₃ e₄ e = absurd (let z : _≡_ {A = ℕ} 0 1 = cc in omega arith)
+    by-tests false true false b₄ e₁ e₂ e₃ e₄ e = absurd (let z : _≡_ {A = ℕ} 0 1 = cc in omega arith)
+    by-tests false true true false e₁ e₂ e₃ e₄ e = absurd (let z : _≡_ {A = ℕ} 0 1 = cc in omega arith)
+    by-tests false true true true e₁ e₂ e₃ e₄ e =
+        let ct : t ≡ beAt s at 2 = cc in
+        let cb : b ≡ at + 4 = cc in
+        let cl : l ≡ len least s at = cc in
+        let cn : next ≡ (record { at = at + 4 + len least s at }) = cc in
+        record {
+          type = ct;
+          start = cb;
+          size = cl;
+          after = ap (λ (x : TlvCursor). x .at) cn ∙ ap (λ (n : ℕ). at + 4 + n) (sym cl);
+          even = ap (λ (n : ℕ). n % 2) cl ∙ eqb-true (len least s at % 2) 0 e₃;
+          enough = leb-true least (left least s at) e₂;
+          within = omega (arith, cl, leb-false (length s) at e₁, leb-true (len least s at + 4) (left least s at) e₄);
+        }
+
+-- ---- the check of a list
+
+-- two checks of the rest that agree on every shorter list agree here
+agree : (least : ℕ) (f g : List ℕ → ℕ) (l : List ℕ) → ((m : List ℕ) → length m < length l → f m ≡ g m)
+    → checkRead f l (entryAt least l 0) ≡ checkRead g l (entryAt least l 0)
+agree least f g l h = by-read (entryAt least l 0) refl
+  where
+    by-read : (r : TlvRead) → entryAt least l 0 ≡ r → checkRead f l r ≡ checkRead g l r
+    by-read End e = refl
+    by-read (Refused n) e = refl
+    by-read (Entry t b n c) e =
+        let r = entry-read least l 0 t b n c e in
+        h (drop (c .at) l) (omega (arith, length-drop (c .at) l, r .after, r .within))
+
+-- steps that are enough say the same
+same-steps : (least j k : ℕ) (l : List ℕ) → length l < j → length l < k → checkIn least j l ≡ checkIn least k l
+same-steps least zero k l h₁ h₂ = absurd (not-suc-le-zero h₁)
+same-steps least (suc j) zero l h₁ h₂ = absurd (not-suc-le-zero h₂)
+same-steps least (suc j) (suc k) l h₁ h₂ = agree least (checkIn least j) (checkIn least k) l (λ m h. same-steps least j k m (omega arith) (omega arith))
+
+-- so the check of a list goes by what stands at its start and the check of the rest
+pub unrolled : (least : ℕ) (l : List ℕ) → listCheck least l ≡ checkRead (listCheck least) l (entryAt least l 0)
+unfolding listCheck
+unrolled least l =
+    agree least (checkIn least (length l)) (listCheck least) l (λ m h. same-steps least (length l) (suc (length m)) m h (omega arith))

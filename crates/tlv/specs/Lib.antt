@@ -1,4 +1,5 @@
 pub mod Tlv
+pub mod Laws
 pub mod Kind
 pub mod Builder
-pub mod Laws
+pub mod BuilderLaws

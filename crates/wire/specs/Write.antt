@@ -59,3 +59,13 @@ done fits size s out e =
     let p = passed fits (leb size (length s)) e in
     let l = leb-true size (length s) (p .1) in
     record { fit = p .0; room = l; exit = sym (wrote-0 fits size s out (p .0) l .1) }
+
+-- ---- what any other answer says
+
+pub kept : (fits : Bool) (size : ℕ) (s out : List ℕ) → (writeNumber fits size s ≡ 0 → ⊥) → writeBuffer fits size s out ≡ s
+unfolding writeBuffer
+kept fits size s out n = by (writeNumber fits size s) n
+  where
+    by : (k : ℕ) → (k ≡ 0 → ⊥) → onZero k out s ≡ s
+    by zero h = absurd (h refl)
+    by (suc k) h = refl

@@ -1,46 +1,46 @@
+-- `tlv::write_entry` meets its contract, by the law of each of its four ways.
+-- Assumes nothing.
+use Prim.Native.Nat.{_+_}
+use mathlib.Core.Path.{ap, _∙_}
+use native.Mathlib.Omega.{arith}
 use borrow.Author.Needs.{needs}
+use denote.Ref.{now}
+use lib.ListN.{length}
+use Rattle.wire.specs.Be.{put}
+use Rattle.wire.specs.Write.{wrote-15, wrote-1, wrote-0}
+use Rattle.tlv.specs.Builder.{entryBytes, entryFits}
+use Rattle.tlv.specs.BuilderLaws.{odd-unfit, long-unfit, even-fits, laid}
 use Rattle.tlv.proofs.write_entry.Statement.{statement}
 use Rattle.tlv.proofs.write_entry.Tie as tie
-use Rattle.tlv.proofs.write_entry.Reads as reads
-use Rattle.tlv.proofs.write_entry.Lts as lts
-use Rattle.wire.proofs.put_be.Reads as put-be-reads
-use Rattle.wire.proofs.put_bytes.Reads as put-bytes-reads
 
--- src/lib.rt:234:9
 returns : tie.Need-returns
-returns c = ?
+returns c =
+    let a = c .before .before .before .args in
+    let n = length (now (a .value)) in
+    wrote-15 (entryFits n) (n + 4) (now (a .buffer)) _ (odd-unfit n (c .if1 .taken))
 
--- src/lib.rt:237:9
 returns-2 : tie.Need-returns-2
-returns-2 c = ?
+returns-2 c =
+    let a = c .before .before .before .before .args in
+    let n = length (now (a .value)) in
+    wrote-15 (entryFits n) (n + 4) (now (a .buffer)) _ (long-unfit n (c .before .if1 .left) (c .if2 .taken))
 
--- src/lib.rt:239:23
-add-if3 : tie.Need-add-if3
-add-if3 c = search needs
-
--- src/lib.rt:240:9
 returns-3 : tie.Need-returns-3
-returns-3 c = ?
+returns-3 c =
+    let a = c .before .before .before .before .before .args in
+    let n = length (now (a .value)) in
+    wrote-1 (entryFits n) (n + 4) (now (a .buffer)) _ (even-fits n (c .before .before .if1 .left) (c .before .if2 .left)) (c .if3 .taken)
 
--- src/lib.rt:242:5
-put-be-requires : tie.Need-put-be-requires
-put-be-requires c κs = search needs
-
--- src/lib.rt:243:5
-put-be-requires-2 : tie.Need-put-be-requires-2
-put-be-requires-2 c κs = search needs
-
--- src/lib.rt:244:5
-put-bytes-requires : tie.Need-put-bytes-requires
-put-bytes-requires c κs = search needs
-
--- src/lib.rt:229:1
-same-length : tie.Need-same-length
-same-length c = search needs
-
--- src/lib.rt:229:1
 returns-4 : tie.Need-returns-4
-returns-4 c = ?
+returns-4 c =
+    let d = c .before .before .before .before .before .before .before .before .before .before .before .before in
+    let a = d .before .before .before .before .before .args in
+    let n = length (now (a .value)) in
+    let b = now (a .buffer) in
+    let w = wrote-0 (entryFits n) (n + 4) b (put b 0 (entryBytes (a .tlv-type) (now (a .value)))) (even-fits n (d .before .before .if1 .left) (d .before .if2 .left)) (d .if3 .left) in
+    let first = c .before .before .before .before .before .before .before .before .before .before .put-be .ensures in
+    let second = c .before .before .before .before .before .before .put-be2 .ensures in
+    (w .0, rw (c .before .before .put-bytes .ensures, second, first) (laid b (a .tlv-type) (now (a .value)) (d .if3 .left) ∙ w .1))
 
 pub write-entry-spec : {M : Type 1} → statement M
 write-entry-spec =
@@ -48,10 +48,10 @@ write-entry-spec =
     (tie.spec
     returns
     returns-2
-    add-if3
+    (λ c. search needs)
     returns-3
-    put-be-requires
-    put-be-requires-2
-    put-bytes-requires
-    same-length
+    (λ c κs. search needs)
+    (λ c κs. search needs)
+    (λ c κs. search needs)
+    (λ c. search needs)
     returns-4)

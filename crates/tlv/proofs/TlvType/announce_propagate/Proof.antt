@@ -1,34 +1,37 @@
+-- `tlv::TlvType::announce_propagate` meets its contract: the bounds of each arm decide each test.
+-- Assumes nothing.
+use native.Mathlib.Omega.{arith}
 use borrow.Author.Needs.{needs}
+use borrow.Author.Tests.{le-leb, lt-leb}
 use Rattle.tlv.proofs.TlvType.announce_propagate.Statement.{statement}
 use Rattle.tlv.proofs.TlvType.announce_propagate.Tie as tie
-use Rattle.tlv.proofs.TlvType.announce_propagate.Reads as reads
-use Rattle.tlv.proofs.TlvType.announce_propagate.Lts as lts
-use Rattle.tlv.proofs.TlvType.to_primitive.Reads as to-primitive-reads
 
--- src/lib.rt:206:15
-to-primitive-requires : tie.Need-to-primitive-requires
-to-primitive-requires c κs = search needs
-
--- src/lib.rt:203:5
 returns : tie.Need-returns
-returns c = ?
+returns c =
+    let n = c .before .before .to-primitive .result in
+    rw (← c .before .before .to-primitive .ensures) (simp (le-leb 8 n (omega arith), le-leb n 9 (omega arith)))
 
--- src/lib.rt:203:5
 returns-2 : tie.Need-returns-2
-returns-2 c = ?
+returns-2 c =
+    let n = c .before .before .before .before .to-primitive .result in
+    rw (← c .before .before .before .before .to-primitive .ensures)
+    (simp (le-leb 8 n (omega arith), lt-leb n 9 (omega arith), le-leb 0x4000 n (omega arith), le-leb n 0x7fff (omega arith)))
 
--- src/lib.rt:203:5
 returns-3 : tie.Need-returns-3
-returns-3 c = ?
+returns-3 c =
+    let n = c .before .to-primitive .result in
+    rw (← c .before .to-primitive .ensures) (simp (lt-leb 8 n (omega arith), lt-leb 0x4000 n (omega arith)))
 
--- src/lib.rt:203:5
 returns-4 : tie.Need-returns-4
-returns-4 c = ?
+returns-4 c =
+    let n = c .before .before .before .to-primitive .result in
+    rw (← c .before .before .before .to-primitive .ensures) (simp (le-leb 8 n (omega arith), lt-leb n 9 (omega arith), lt-leb 0x4000 n (omega arith)))
 
--- src/lib.rt:203:5
 returns-5 : tie.Need-returns-5
-returns-5 c = ?
+returns-5 c =
+    let n = c .before .before .before .before .to-primitive .result in
+    rw (← c .before .before .before .before .to-primitive .ensures)
+    (simp (le-leb 8 n (omega arith), lt-leb n 9 (omega arith), le-leb 0x4000 n (omega arith), lt-leb n 0x7fff (omega arith)))
 
 pub announce-propagate-spec : {M : Type 1} → statement M
-announce-propagate-spec =
-    tie.close (tie.spec to-primitive-requires returns returns-2 returns-3 returns-4 returns-5)
+announce-propagate-spec = tie.close (tie.spec (λ c κs. search needs) returns returns-2 returns-3 returns-4 returns-5)
