@@ -13,7 +13,7 @@ use Rattle.wire.specs.Be.{beAt}
 use Rattle.tlv.specs.declared.TlvCursor.{TlvCursor}
 use Rattle.tlv.specs.declared.TlvRead.{TlvRead}
 use Rattle.tlv.specs.declared.TlvRead.the-variants.{Entry, End, Refused}
-use Rattle.tlv.specs.Tlv.{entryAt, checkRead, checkIn, listCheck}
+use Rattle.tlv.specs.Tlv.{entryAt, readAt, checkRead, checkIn, listCheck, checkList, listRead}
 
 -- ---- the ways of a read
 
@@ -61,31 +61,60 @@ pub record Read (least : ℕ) (s : List ℕ) (at t b l : ℕ) (next : TlvCursor)
   pub enough : least ≤ length s - at
   pub within : at + 4 + l ≤ length s
 
-pub entry-read : (least : ℕ) (s : List ℕ) (at t b l : ℕ) (next : TlvCursor) → entryAt least s at ≡ Entry t b l next → Read least s at t b l next
-unfolding entryAt
-entry-read least s at t b l next e =
-    by-tests (leb (length s) at) (leb least (left least s at)) (eqb (len least s at % 2) 0) (leb (len least s at + 4) (left least s at)) refl refl refl refl e
-  where
-    by-tests : (b₁ b₂ b₃ b₄ : Bool) → leb (length s) at ≡ b₁ → leb least (left least s at) ≡ b₂ → eqb (len least s at % 2) 0 ≡ b₃ → leb (len least s at + 4) (left least s at) ≡ b₄
-        → cond b₁ End (cond b₂ (cond b₃ (cond b₄ (found least s at) (Refused 1)) (Refused 4)) (Refused 1)) ≡ Entry t b l next → Read least s at t b l next
-    by-tests true b₂ b₃ b₄ e₁ e₂ e₃ e₄ e = absurd (let z : _≡_ {A = ℕ} 0 1 = cc in omega arith)
-    by-tests false false b₃ b₄ e₁ e₂ e₃ e₄ e = absurd (let z : _≡_ {A = ℕ} 0 1 = cc in omega arith)
-    by-tests false true false b₄ e₁ e₂ e₃ e₄ e = absurd (let z : _≡_ {A = ℕ} 0 1 = cc in omega arith)
-    by-tests false true true false e₁ e₂ e₃ e₄ e = absurd (let z : _≡_ {A = ℕ} 0 1 = cc in omega arith)
-    by-tests false true true true e₁ e₂ e₃ e₄ e =
-        let ct : t ≡ beAt s at 2 = cc in
-        let cb : b ≡ at + 4 = cc in
-        let cl : l ≡ len least s at = cc in
-        let cn : next ≡ (record { at = at + 4 + len least s at }) = cc in
-        record {
-          type = ct;
-          start = cb;
-          size = cl;
-          after = ap (λ (x : TlvCursor). x .at) cn ∙ ap (λ (n : ℕ). at + 4 + n) (sym cl);
-          even = ap (λ (n : ℕ). n % 2) cl ∙ eqb-true (len least s at % 2) 0 e₃;
-          enough = leb-true least (left least s at) e₂;
-          within = omega (arith, cl, leb-false (length s) at e₁, leb-true (len least s at + 4) (left least s at) e₄);
-        }
+-- the tests of a read, one by one
+module _ (least : ℕ) (s : List ℕ) (at : ℕ) where
+  abbrev byTests : Bool → Bool → Bool → Bool → TlvRead
+  byTests b₁ b₂ b₃ b₄ = cond b₁ End (cond b₂ (cond b₃ (cond b₄ (found least s at) (Refused 1)) (Refused 4)) (Refused 1))
+
+  pub entry-read : (t b l : ℕ) (next : TlvCursor) → entryAt least s at ≡ Entry t b l next → Read least s at t b l next
+  unfolding entryAt
+  entry-read t b l next e =
+      by (leb (length s) at) (leb least (left least s at)) (eqb (len least s at % 2) 0) (leb (len least s at + 4) (left least s at)) refl refl refl refl e
+    where
+      by : (b₁ b₂ b₃ b₄ : Bool) → leb (length s) at ≡ b₁ → leb least (left least s at) ≡ b₂ → eqb (len least s at % 2) 0 ≡ b₃ → leb (len least s at + 4) (left least s at) ≡ b₄
+          → byTests b₁ b₂ b₃ b₄ ≡ Entry t b l next → Read least s at t b l next
+      by true b₂ b₃ b₄ e₁ e₂ e₃ e₄ e = absurd (let z : _≡_ {A = ℕ} 0 1 = cc in omega arith)
+      by false false b₃ b₄ e₁ e₂ e₃ e₄ e = absurd (let z : _≡_ {A = ℕ} 0 1 = cc in omega arith)
+      by false true false b₄ e₁ e₂ e₃ e₄ e = absurd (let z : _≡_ {A = ℕ} 0 1 = cc in omega arith)
+      by false true true false e₁ e₂ e₃ e₄ e = absurd (let z : _≡_ {A = ℕ} 0 1 = cc in omega arith)
+      by false true true true e₁ e₂ e₃ e₄ e =
+          let ct : t ≡ beAt s at 2 = cc in
+          let cb : b ≡ at + 4 = cc in
+          let cl : l ≡ len least s at = cc in
+          let cn : next ≡ (record { at = at + 4 + len least s at }) = cc in
+          record {
+            type = ct;
+            start = cb;
+            size = cl;
+            after = ap (λ (x : TlvCursor). x .at) cn ∙ ap (λ (n : ℕ). at + 4 + n) (sym cl);
+            even = ap (λ (n : ℕ). n % 2) cl ∙ eqb-true (len least s at % 2) 0 e₃;
+            enough = leb-true least (left least s at) e₂;
+            within = omega (arith, cl, leb-false (length s) at e₁, leb-true (len least s at + 4) (left least s at) e₄);
+          }
+
+  -- none is read where no byte is left
+  pub none-read : entryAt least s at ≡ End → length s ≤ at
+  unfolding entryAt
+  none-read e = by (leb (length s) at) (leb least (left least s at)) (eqb (len least s at % 2) 0) (leb (len least s at + 4) (left least s at)) refl e
+    where
+      by : (b₁ b₂ b₃ b₄ : Bool) → leb (length s) at ≡ b₁ → byTests b₁ b₂ b₃ b₄ ≡ End → length s ≤ at
+      by true b₂ b₃ b₄ e₁ e = leb-true (length s) at e₁
+      by false false b₃ b₄ e₁ e = absurd (let z : _≡_ {A = ℕ} 0 1 = cc in omega arith)
+      by false true false b₄ e₁ e = absurd (let z : _≡_ {A = ℕ} 0 1 = cc in omega arith)
+      by false true true false e₁ e = absurd (let z : _≡_ {A = ℕ} 0 1 = cc in omega arith)
+      by false true true true e₁ e = absurd (let z : _≡_ {A = ℕ} 0 1 = cc in omega arith)
+
+  -- the number of a refusal is not that of done
+  pub refusal-read : (n : ℕ) → entryAt least s at ≡ Refused n → 0 < n
+  unfolding entryAt
+  refusal-read n e = by (leb (length s) at) (leb least (left least s at)) (eqb (len least s at % 2) 0) (leb (len least s at + 4) (left least s at)) e
+    where
+      by : (b₁ b₂ b₃ b₄ : Bool) → byTests b₁ b₂ b₃ b₄ ≡ Refused n → 0 < n
+      by true b₂ b₃ b₄ e = absurd (let z : _≡_ {A = ℕ} 0 1 = cc in omega arith)
+      by false false b₃ b₄ e = let c : n ≡ 1 = cc in omega arith
+      by false true false b₄ e = let c : n ≡ 4 = cc in omega arith
+      by false true true false e = let c : n ≡ 1 = cc in omega arith
+      by false true true true e = absurd (let z : _≡_ {A = ℕ} 0 1 = cc in omega arith)
 
 -- ---- the check of a list
 
@@ -112,3 +141,15 @@ pub unrolled : (least : ℕ) (l : List ℕ) → listCheck least l ≡ checkRead 
 unfolding listCheck
 unrolled least l =
     agree least (checkIn least (length l)) (listCheck least) l (λ m h. same-steps least (length l) (suc (length m)) m h (omega arith))
+
+-- ---- one entry of a list that is checked first
+
+module _ (s : List ℕ) (at : ℕ) where
+  pub list-refused : (n : ℕ) → checkList s ≡ n → (n ≡ 0 → ⊥) → Refused n ≡ listRead s at
+  unfolding listRead
+  list-refused zero e h = absurd (h refl)
+  list-refused (suc n) e h = rw e
+
+  pub list-taken : checkList s ≡ 0 → readAt s at ≡ listRead s at
+  unfolding listRead
+  list-taken e = rw e

@@ -3,3 +3,5 @@ pub mod Laws
 pub mod Kind
 pub mod Builder
 pub mod BuilderLaws
+pub mod Entries
+pub mod Lines
