@@ -41,11 +41,11 @@ module _ (s : List ℕ) (b : Bytes s) (le : 64 ≤ length s) (a : AnnounceMessag
   unfolding headed
   headed-bytes = header.bytes-withHeader s (a .header) Announce size b
 
-  written : length (withMessage s a size) ≡ length s
+  pub written : length (withMessage s a size) ≡ length s
   unfolding withMessage headed
   written = length-withContent headed 34 a (omega (arith, headed-length)) ∙ headed-length
 
-  wired-back : header.Whole (a .header) → size < 65536 → header.wiredAt (withMessage s a size) ≡ header.wiredOf (a .header) Announce size
+  pub wired-back : header.Whole (a .header) → size < 65536 → header.wiredAt (withMessage s a size) ≡ header.wiredOf (a .header) Announce size
   unfolding withMessage headed withContent
   wired-back w hs =
       header.header-kept headed 34 (contentBytes (reservedOf headed 34) a) (omega arith) (omega (arith, headed-length))
@@ -58,7 +58,7 @@ module _ (s : List ℕ) (b : Bytes s) (le : 64 ≤ length s) (a : AnnounceMessag
       header.read-kept headed 34 (contentBytes (reservedOf headed 34) a) (omega arith) (rw length-bytesOfAll (omega (arith, headed-length)))
       ∙ header.header-trip s (a .header) Announce size w hs (omega arith)
 
-  content-back : Whole a → contentAt (a .header) (withMessage s a size) 34 ≡ a
+  pub content-back : Whole a → contentAt (a .header) (withMessage s a size) 34 ≡ a
   unfolding withMessage headed
   content-back w = content-trip headed 34 a w headed-bytes (omega (arith, headed-length))
 
@@ -74,7 +74,7 @@ message-trip s b le a size wh wa hs =
 -- ---- written again
 
 -- the 30 bytes of a content that stands from 34 on, with a given byte 12
-content-again : (s : List ℕ) (h : Header) (reserved : ℕ) → Bytes s → 64 ≤ length s
+pub content-again : (s : List ℕ) (h : Header) (reserved : ℕ) → Bytes s → 64 ≤ length s
     → contentBytes reserved (contentAt h s 34) ≡ part s 34 12 ++ (bytesOf 1 reserved ++ part s 47 17)
 unfolding contentWidths contentValues announceOf announceWith fieldsAt bytesOfAll
 content-again s h reserved b le =
@@ -85,7 +85,7 @@ content-again s h reserved b le =
     (ap (λ (r : List ℕ). bytesOf 1 reserved ++ r) (bytes-fields (1 ∷ 1 ∷ 1 ∷ 2 ∷ 1 ∷ 8 ∷ 2 ∷ 1 ∷ []) s 47 b le))
 
 -- what the target holds in byte 46, which the header does not reach
-reserved-there : (target : List ℕ) (h : Header) (size : ℕ) → 34 ≤ length target → reservedOf (withHeader target h Announce size) 34 ≡ beAt target 46 1
+pub reserved-there : (target : List ℕ) (h : Header) (size : ℕ) → 34 ≤ length target → reservedOf (withHeader target h Announce size) 34 ≡ beAt target 46 1
 unfolding reservedOf withHeader headerWidths
 reserved-there target h size le =
     beAt-same (put target 0 (headerBytes h Announce size)) target 46 1

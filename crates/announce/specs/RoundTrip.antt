@@ -152,6 +152,13 @@ ignored h s at x le =
     (fields-after (1 ∷ 1 ∷ 1 ∷ 2 ∷ 1 ∷ 8 ∷ 2 ∷ 1 ∷ []) s (at + 13) (at + 12) (bytesOf 1 x) (rw length-bytesOf (omega arith)) (rw length-bytesOf (omega arith)))
     ∙ sym (by-around h s at)
 
+-- nor do bytes that are put after it touch it
+pub content-kept : (h : Header) (s : List ℕ) (at k : ℕ) (bs : List ℕ) → at + 30 ≤ k → k ≤ length s → contentAt h (put s k bs) at ≡ contentAt h s at
+content-kept h s at k bs le lk =
+    by-around h (put s k bs) at
+    ∙ ap₂ (around h) (fields-before (6 ∷ 4 ∷ 2 ∷ []) s at k bs (omega arith) lk) (fields-before (1 ∷ 1 ∷ 1 ∷ 2 ∷ 1 ∷ 8 ∷ 2 ∷ 1 ∷ []) s (at + 13) k bs (omega arith) lk)
+    ∙ sym (by-around h s at)
+
 -- ---- writing over
 
 -- byte 12 is as it lay

@@ -4,6 +4,7 @@ use Prim.Native.Nat.{ℕ, zero, suc, _+_, _%_, _≤_, _<_}
 use mathlib.Core.Path.{_≡_, refl, sym, ap, _∙_}
 use mathlib.Core.Bool.{Bool, true, false, cond}
 use mathlib.Core.List.{List}
+use mathlib.Core.Option.{none, some}
 use native.Mathlib.Omega.{arith}
 use borrow.Author.Tests.{le-leb, lt-leb, eq-eqb, ne-eqb, leb-true, eqb-true}
 use lib.Dec.{eqb, leb}
@@ -20,7 +21,7 @@ use Rattle.announce.specs.declared.AnnounceMessage.{AnnounceMessage}
 use Rattle.announce.specs.Wire as announce
 use Rattle.tlv.specs.Tlv.{checkList, wholeEntries}
 use Rattle.frame.specs.declared.FrameRead.the-variants.{Done, Refused}
-use Rattle.frame.specs.Frame.{sizeAt, tlvsAt, refusalOfType, refusalOf, orElse, frameRefusal, messageAt, readFrame, fitsOf}
+use Rattle.frame.specs.Frame.{sizeAt, tlvsAt, refusalOfType, refusalOf, orElse, frameRefusal, messageAt, onZero, readFrame, answerOf, fitsOf}
 
 -- ---- the checks on numbers
 
@@ -127,6 +128,15 @@ module _ (s : List ℕ) where
   pub read-done : frameRefusal s ≡ 0 → Done (messageAt s) ≡ readFrame s
   unfolding readFrame
   read-done e = rw e
+
+-- in the paper's numbers: 0 with the message, or the refusal's number alone
+pub frame-answer : (s : List ℕ) → answerOf (readFrame s) ≡ (frameRefusal s, cond (eqb (frameRefusal s) 0) (some (messageAt s)) none)
+unfolding readFrame
+frame-answer s = by (frameRefusal s)
+  where
+    by : (n : ℕ) → answerOf (onZero n (messageAt s)) ≡ (n, cond (eqb n 0) (some (messageAt s)) none)
+    by zero = refl
+    by (suc n) = rw (ne-eqb (suc n) 0 (λ e. omega (arith, e)))
 
 -- ---- what fits the wire
 

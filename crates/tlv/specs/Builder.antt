@@ -1,18 +1,25 @@
 -- The bytes of an entry, and what a builder answers and writes.
 -- Assumes nothing.
 use Prim.Native.Nat.{ℕ, zero, suc, _+_, _%_}
-use mathlib.Core.List.{List, _++_}
+use mathlib.Core.List.{List, [], _∷_, _++_}
 use mathlib.Core.Bool.{Bool, false, cond}
+use mathlib.Core.Option.{Option, none, some}
 use lib.ListN.{length}
 use lib.Dec.{leb, eqb}
 use Rattle.wire.specs.Be.{bytesOf, put}
 use Rattle.wire.specs.Write.{writeNumber, writeBuffer}
+use Rattle.tlv.specs.Tlv.{Tlv}
 use Rattle.tlv.specs.declared.Added.{Added}
 use Rattle.tlv.specs.declared.Added.the-variants.{Done, Refused}
 
 -- u16 type, u16 length, value
 unfoldable pub entryBytes : ℕ → List ℕ → List ℕ
 entryBytes t v = bytesOf 2 t ++ bytesOf 2 (length v) ++ v
+
+-- the bytes of entries, one after the other
+unfoldable pub listBytes : List Tlv → List ℕ
+listBytes [] = []
+listBytes (e ∷ es) = entryBytes (e .type) (e .value) ++ listBytes es
 
 -- what the wire can hold: a value of even length, of 65,534 bytes at most
 unfoldable pub entryFits : ℕ → Bool
@@ -39,3 +46,8 @@ added (suc n) used = Refused (suc n)
 
 unfoldable pub addRead : List ℕ → ℕ → List ℕ → Added
 addRead s used v = added (addAnswer s used v) (used + (length v + 4))
+
+-- in the paper's numbers: 0 with the bytes used afterwards, or the refusal's number alone
+abbrev pub answerOf : Added → ℕ × Option ℕ
+answerOf (Done b) = (0, some (b .used))
+answerOf (Refused n) = (n, none)

@@ -3,19 +3,21 @@
 use Prim.Native.Nat.{ℕ, zero, suc, _+_, _-_, _%_, _≤_, _<_}
 use mathlib.Core.Path.{_≡_, refl, sym, ap, _∙_}
 use mathlib.Core.Bool.{Bool, true, false, cond}
-use mathlib.Core.List.{List, _++_}
+use mathlib.Core.List.{List, [], _∷_, _++_, append-assoc, append-nil}
+use mathlib.Core.Option.{none, some}
 use native.Mathlib.Nat.{add-zero}
 use native.Mathlib.Omega.{arith}
 use lib.ListN.{length, take, drop, length-append, length-drop}
-use lib.Seq.{length-take-le}
+use lib.Seq.{length-take-le, take-at}
 use lib.Dec.{leb, eqb}
 use borrow.Rule.Slice.PartMut.{putMid, midOf, put-same}
-use borrow.Author.Tests.{le-leb, lt-leb, eq-eqb, ne-eqb, leb-true, leb-false, eqb-true}
+use borrow.Author.Tests.{le-leb, lt-leb, eq-eqb, ne-eqb, leb-true, leb-false}
 use Rattle.wire.specs.Be.{bytesOf, put}
 use Rattle.wire.specs.BeLaws.{length-bytesOf, put-put, put-part}
 use Rattle.wire.specs.Write.{writeNumber, done, kept}
 use Rattle.tlv.specs.declared.Added.the-variants.{Done, Refused}
-use Rattle.tlv.specs.Builder.{entryBytes, entryFits, entryAnswer, entryExit, addAnswer, addExit, added, addRead}
+use Rattle.tlv.specs.Tlv.{Tlv}
+use Rattle.tlv.specs.Builder.{entryBytes, entryFits, entryAnswer, entryExit, addAnswer, addExit, added, addRead, answerOf, listBytes}
 
 -- ---- what fits
 
@@ -92,3 +94,36 @@ pub read-refused : (b v : List ℕ) (used n : ℕ) → addAnswer b used v ≡ n 
 unfolding addRead
 read-refused b v used zero e h = absurd (h refl)
 read-refused b v used (suc n) e h = rw e
+
+-- in the paper's numbers
+pub add-answer : (b v : List ℕ) (used : ℕ)
+    → answerOf (addRead b used v) ≡ (addAnswer b used v, cond (eqb (addAnswer b used v) 0) (some (used + (length v + 4))) none)
+unfolding addRead
+add-answer b v used = by (addAnswer b used v)
+  where
+    by : (n : ℕ) → answerOf (added n (used + (length v + 4))) ≡ (n, cond (eqb n 0) (some (used + (length v + 4))) none)
+    by zero = refl
+    by (suc n) = rw (ne-eqb (suc n) 0 (λ e. omega (arith, e)))
+
+-- ---- a list that grows
+
+list-more : (es : List Tlv) (e : Tlv) → listBytes (es ++ (e ∷ [])) ≡ listBytes es ++ entryBytes (e .type) (e .value)
+unfolding listBytes
+list-more [] e = append-nil (entryBytes (e .type) (e .value))
+list-more (f ∷ es) e =
+    ap (λ (l : List ℕ). entryBytes (f .type) (f .value) ++ l) (list-more es e) ∙ sym (append-assoc (entryBytes (f .type) (f .value)) (listBytes es) (entryBytes (e .type) (e .value)))
+
+-- where the bytes used are a list of entries, they are afterwards that list and the new entry
+pub add-entry : (b : List ℕ) (used : ℕ) (es : List Tlv) (e : Tlv) → take used b ≡ listBytes es → addAnswer b used (e .value) ≡ 0
+    → take (used + (length (e .value) + 4)) (addExit b used (e .type) (e .value)) ≡ listBytes (es ++ (e ∷ []))
+unfolding put
+add-entry b used es e h k =
+    let eb = entryBytes (e .type) (e .value) in
+    let n = length (e .value) + 4 in
+    let d = done (entryFits (length (e .value))) (used + n) b (put b used eb) k in
+    let here : length (take used b ++ eb) ≡ used + n =
+    simp (length-append, length-take-le used b (omega (arith, d .room)), length-entryBytes) in
+    ap (take (used + n)) (d .exit)
+    ∙ take-at (take used b ++ eb) (drop (used + length eb) b) (used + n) here
+    ∙ ap (λ (l : List ℕ). l ++ eb) h
+    ∙ sym (list-more es e)

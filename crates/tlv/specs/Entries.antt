@@ -1,12 +1,11 @@
 -- A list of TLVs as entries one after the other: the rule of a list takes exactly the bytes of such a list.
 -- Assumes nothing.
-use Prim.Native.Nat.{ℕ, zero, suc, _+_, _-_, _%_, _^_, _≤_, _<_, zero-le}
+use Prim.Native.Nat.{ℕ, zero, suc, _+_, _-_, _%_, _≤_, _<_, zero-le}
 use mathlib.Core.Path.{_≡_, refl, sym, ap, ap₂, _∙_, subst}
-use mathlib.Core.Bool.{Bool, true, false}
+use mathlib.Core.Bool.{true}
 use mathlib.Core.List.{List, [], _∷_, _++_, append-assoc}
 use native.Mathlib.Nat.{not-suc-le-zero}
 use native.Mathlib.Omega.{arith}
-use lib.Dec.{eqb}
 use lib.ListN.{length, take, drop, length-append, length-drop, take-append-drop}
 use lib.Seq.{drop-at, drop-drop, getD-drop, length-take-le}
 use borrow.Author.Tests.{eqb-true, eq-eqb}
@@ -16,14 +15,9 @@ use Rattle.tlv.specs.declared.TlvCursor.{TlvCursor}
 use Rattle.tlv.specs.declared.TlvRead.{TlvRead}
 use Rattle.tlv.specs.declared.TlvRead.the-variants.{Entry, End, Refused}
 use Rattle.tlv.specs.Tlv.{Tlv, leastLeft, entryAt, checkRead, listCheck, checkList, wholeEntries}
-use Rattle.tlv.specs.Builder.{entryBytes}
+use Rattle.tlv.specs.Builder.{entryBytes, listBytes}
 use Rattle.tlv.specs.BuilderLaws.{length-entryBytes}
 use Rattle.tlv.specs.Laws.{Read, read-none, read-entry, entry-read, none-read, refusal-read, unrolled}
-
--- the bytes of entries, one after the other
-unfoldable pub listBytes : List Tlv → List ℕ
-listBytes [] = []
-listBytes (e ∷ es) = entryBytes (e .type) (e .value) ++ listBytes es
 
 -- an entry that the wire can hold: a type of 16 bits, a value of even length that fits the length field
 pub record Even (e : Tlv) : Type 0 where

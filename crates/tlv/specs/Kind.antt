@@ -2,8 +2,10 @@
 -- Assumes nothing.
 use Prim.Native.Nat.{ℕ}
 use mathlib.Core.List.{List, [], _∷_}
-use mathlib.Core.Bool.{Bool, cond, _||_, _&&_}
+use mathlib.Core.Path.{_≡_, refl, sym, ap}
+use mathlib.Core.Bool.{Bool, true, false, cond, _||_, _&&_}
 use lib.Dec.{eqb, leb}
+use borrow.Author.Tests.{eqb-true}
 use Rattle.tlv.specs.declared.TlvType.{TlvType}
 use Rattle.tlv.specs.declared.TlvType.the-variants.{Management, ManagementErrorStatus, OrganizationExtension, RequestUnicastTransmission, GrantUnicastTransmission, CancelUnicastTransmission, AcknowledgeCancelUnicastTransmission, PathTrace, AlternateTimeOffsetIndicator, OrganizationExtensionPropagate, EnhancedAccuracyMetrics, OrganizationExtensionDoNotPropagate, L1Sync, PortCommunicationAvailability, ProtocolAddress, SlaveRxSyncTimingData, SlaveRxSyncComputedData, SlaveTxEventTimestamps, CumulativeRateRatio, Pad, Authentication, Other}
 
@@ -52,3 +54,22 @@ kindOf n = oneIn named n
 -- 8, 9 and 0x4000 to 0x7FFF are passed on downstream
 abbrev pub passedOn : ℕ → Bool
 passedOn n = (leb 8 n && leb n 9) || (leb 0x4000 n && leb n 0x7fff)
+
+-- ---- laws
+
+-- a number's kind has that number
+number-in : (ks : List TlvType) (n : ℕ) → numberOf (oneIn ks n) ≡ n
+number-in [] n = refl
+number-in (k ∷ ks) n = by (eqb n (numberOf k)) refl (number-in ks n)
+  where
+    by : (b : Bool) → eqb n (numberOf k) ≡ b → numberOf (oneIn ks n) ≡ n → numberOf (cond b k (oneIn ks n)) ≡ n
+    by true e rest = sym (eqb-true n (numberOf k) e)
+    by false e rest = rest
+
+pub number-kind : (n : ℕ) → numberOf (kindOf n) ≡ n
+unfolding kindOf
+number-kind n = number-in named n
+
+-- so an entry is passed on by its number
+pub passed-by-number : (n : ℕ) → passedOn (numberOf (kindOf n)) ≡ passedOn n
+passed-by-number n = ap passedOn (number-kind n)

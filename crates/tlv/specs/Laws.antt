@@ -4,16 +4,17 @@ use Prim.Native.Nat.{ℕ, zero, suc, _+_, _-_, _%_, _<_, _≤_}
 use mathlib.Core.Path.{_≡_, refl, sym, ap, _∙_}
 use mathlib.Core.Bool.{Bool, true, false, cond}
 use mathlib.Core.List.{List}
+use mathlib.Core.Option.{none, some}
 use native.Mathlib.Omega.{arith}
 use native.Mathlib.Nat.{not-suc-le-zero}
-use lib.ListN.{length, drop, length-drop}
+use lib.ListN.{length, take, drop, length-drop}
 use lib.Dec.{leb, eqb}
 use borrow.Author.Tests.{le-leb, lt-leb, eq-eqb, ne-eqb, leb-true, leb-false, eqb-true}
 use Rattle.wire.specs.Be.{beAt}
 use Rattle.tlv.specs.declared.TlvCursor.{TlvCursor}
 use Rattle.tlv.specs.declared.TlvRead.{TlvRead}
 use Rattle.tlv.specs.declared.TlvRead.the-variants.{Entry, End, Refused}
-use Rattle.tlv.specs.Tlv.{entryAt, readAt, checkRead, checkIn, listCheck, checkList, listRead}
+use Rattle.tlv.specs.Tlv.{answerOf, entryAt, readAt, checkRead, checkIn, listCheck, checkList, listRead}
 
 -- ---- the ways of a read
 
@@ -115,6 +116,25 @@ module _ (least : ℕ) (s : List ℕ) (at : ℕ) where
       by false true false b₄ e = let c : n ≡ 4 = cc in omega arith
       by false true true false e = let c : n ≡ 1 = cc in omega arith
       by false true true true e = absurd (let z : _≡_ {A = ℕ} 0 1 = cc in omega arith)
+
+  -- in the paper's numbers: 0 and none where no byte is left; 1, 4 and 1 in its order; else 0 with type and value
+  pub read-answer : answerOf s (entryAt least s at)
+      ≡ cond (leb (length s) at) (0, none)
+      (cond (leb least (left least s at))
+      (cond (eqb (len least s at % 2) 0)
+      (cond (leb (len least s at + 4) (left least s at)) (0, some (record { type = beAt s at 2; value = take (len least s at) (drop (at + 4) s) })) (1, none))
+      (4, none))
+      (1, none))
+  unfolding entryAt
+  read-answer = by (leb (length s) at) (leb least (left least s at)) (eqb (len least s at % 2) 0) (leb (len least s at + 4) (left least s at))
+    where
+      by : (b₁ b₂ b₃ b₄ : Bool) → answerOf s (byTests b₁ b₂ b₃ b₄)
+          ≡ cond b₁ (0, none) (cond b₂ (cond b₃ (cond b₄ (0, some (record { type = beAt s at 2; value = take (len least s at) (drop (at + 4) s) })) (1, none)) (4, none)) (1, none))
+      by true b₂ b₃ b₄ = refl
+      by false false b₃ b₄ = refl
+      by false true false b₄ = refl
+      by false true true false = refl
+      by false true true true = refl
 
 -- ---- the check of a list
 

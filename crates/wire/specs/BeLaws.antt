@@ -120,6 +120,14 @@ put-front s at bs cs le =
     rw split (drop-at (p ++ bs) (cs ++ rest) (at + length bs) (simp (length-append, here))) in
     rw (front, back) (simp append-assoc)
 
+-- the run stands there
+pub part-put : (s : List ℕ) (at : ℕ) (bs : List ℕ) → at ≤ length s → take (length bs) (drop at (put s at bs)) ≡ bs
+unfolding put
+part-put s at bs le =
+    let rest = drop (at + length bs) s in
+    let past : drop at (take at s ++ bs ++ rest) ≡ bs ++ rest = rw append-assoc (drop-at (take at s) (bs ++ rest) at (length-take-le at s le)) in
+    rw past (take-at bs rest (length bs) refl)
+
 -- a byte outside the run is as it was
 pub getD-put-before : (s : List ℕ) (at : ℕ) (bs : List ℕ) (i : ℕ) → i < at → at ≤ length s → getD (put s at bs) i 0 ≡ getD s i 0
 unfolding put
@@ -184,6 +192,10 @@ bytes-put s at bs hs hb =
     (λ i. rw getD-drop (hs (at + length bs + i)))
 
 -- ---- parts of a slice
+
+-- the k bytes from a on are bytes
+pub bytes-part : (k a : ℕ) (s : List ℕ) → Bytes s → Bytes (take k (drop a s))
+bytes-part k a s h = bytes-take k (drop a s) (λ i. rw getD-drop (h (a + i)))
 
 -- a number in the part from a on
 pub beAt-drop : (s : List ℕ) (a at n : ℕ) → beAt (drop a s) at n ≡ beAt s (a + at) n
