@@ -20,14 +20,9 @@ unfoldable pub entryAt : (least : ℕ) → List ℕ → ℕ → TlvRead
 entryAt least s at =
     let left = length s - at in
     let len = beAt s (at + 2) 2 in
+    let entry = Entry (beAt s at 2) (at + 4) len (record { at = at + 4 + len }) in
     cond (leb (length s) at) End
-    (cond (leb least left)
-    (cond (eqb (len % 2) 0)
-    (cond (leb (len + 4) left)
-    (Entry (beAt s at 2) (at + 4) len (record { at = at + 4 + len }))
-    (Refused 1))
-    (Refused 4))
-    (Refused 1))
+    (cond (leb least left) (cond (eqb (len % 2) 0) (cond (leb (len + 4) left) entry (Refused 1)) (Refused 4)) (Refused 1))
 
 -- one entry, read at its place
 abbrev pub readAt : List ℕ → ℕ → TlvRead
