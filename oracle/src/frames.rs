@@ -3,7 +3,7 @@
 use std::io::{Error, Write};
 
 /// Lengths at and beside the ends of a header and of an announce.
-const EDGES: [usize; 6] = [33, 34, 35, 63, 64, 65];
+pub const EDGES: [usize; 6] = [33, 34, 35, 63, 64, 65];
 
 /// Lengths of the frames of one byte throughout.
 const PLAIN: [usize; 13] = [0, 1, 33, 34, 35, 49, 50, 63, 64, 65, 100, 120, 2048];
@@ -31,8 +31,13 @@ const NUMBERS: [(usize, usize); 16] = [
 /// The place of an announce's clock accuracy.
 const ACCURACY: usize = 49;
 
-/// Writes the frames, a line each.
-pub fn run(seed: u64, count: u64, output: &mut impl Write) -> Result<(), Error> {
+/// Writes the frames of a maker of frames, a line each.
+pub fn run(
+    frame: fn(u64, &mut Random) -> Vec<u8>,
+    seed: u64,
+    count: u64,
+    output: &mut impl Write,
+) -> Result<(), Error> {
     let mut random = Random(seed);
     for index in 0..count {
         let mut frame = frame(index, &mut random);
@@ -54,7 +59,7 @@ fn unfolded(byte: u8) -> u8 {
 }
 
 /// A frame before its accuracy is set right: the kinds take turns.
-fn frame(index: u64, random: &mut Random) -> Vec<u8> {
+pub fn frame(index: u64, random: &mut Random) -> Vec<u8> {
     let turn = (index / 11) as usize;
     match index % 11 {
         0 | 1 => announce(random),
@@ -67,7 +72,7 @@ fn frame(index: u64, random: &mut Random) -> Vec<u8> {
             frame
         }
         6 => wrong_length(turn, random),
-        7 => flipped(random),
+        7 => flipped(announce(random), random),
         8 => {
             let length = random.below(121);
             random.bytes(length)
@@ -82,7 +87,7 @@ fn frame(index: u64, random: &mut Random) -> Vec<u8> {
 }
 
 /// A good announce: all fields and reserved bits random, 0 to 40 bytes behind it.
-fn announce(random: &mut Random) -> Vec<u8> {
+pub fn announce(random: &mut Random) -> Vec<u8> {
     let length = 64 + random.below(41);
     let mut frame = random.bytes(length);
     set_type(&mut frame, 0xb);
@@ -146,9 +151,8 @@ fn wrong_length(turn: usize, random: &mut Random) -> Vec<u8> {
     frame
 }
 
-/// An announce with one to three bits flipped.
-fn flipped(random: &mut Random) -> Vec<u8> {
-    let mut frame = announce(random);
+/// A frame with one to three bits flipped.
+pub fn flipped(mut frame: Vec<u8>, random: &mut Random) -> Vec<u8> {
     for _ in 0..=random.below(3) {
         let bit = random.below(8 * frame.len());
         frame[bit / 8] ^= 1 << (bit % 8);
@@ -166,21 +170,21 @@ fn plain(turn: usize) -> Vec<u8> {
     frame
 }
 
-fn set_type(frame: &mut [u8], message_type: u8) {
+pub fn set_type(frame: &mut [u8], message_type: u8) {
     if let Some(first) = frame.first_mut() {
         *first = *first & 0xf0 | message_type;
     }
 }
 
-fn set_length(frame: &mut [u8], length: u16) {
+pub fn set_length(frame: &mut [u8], length: u16) {
     frame[2..4].copy_from_slice(&length.to_be_bytes());
 }
 
 /// The generator splitmix64.
-struct Random(u64);
+pub struct Random(u64);
 
 impl Random {
-    fn next(&mut self) -> u64 {
+    pub fn next(&mut self) -> u64 {
         self.0 = self.0.wrapping_add(0x9e37_79b9_7f4a_7c15);
         let mut value = self.0;
         value = (value ^ (value >> 30)).wrapping_mul(0xbf58_476d_1ce4_e5b9);
@@ -188,19 +192,19 @@ impl Random {
         value ^ (value >> 31)
     }
 
-    fn below(&mut self, limit: usize) -> usize {
+    pub fn below(&mut self, limit: usize) -> usize {
         (self.next() % limit as u64) as usize
     }
 
-    fn byte(&mut self) -> u8 {
+    pub fn byte(&mut self) -> u8 {
         self.next() as u8
     }
 
-    fn bytes(&mut self, count: usize) -> Vec<u8> {
+    pub fn bytes(&mut self, count: usize) -> Vec<u8> {
         (0..count).map(|_| self.byte()).collect()
     }
 
-    fn of<T: Copy>(&mut self, choices: &[T]) -> T {
+    pub fn of<T: Copy>(&mut self, choices: &[T]) -> T {
         choices[self.below(choices.len())]
     }
 }
