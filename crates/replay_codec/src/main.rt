@@ -9,7 +9,11 @@ use header::DeserializedHeader;
 use header::HEADER_SIZE;
 use header::Header;
 use header::HeaderRead;
-use libc::STDOUT_FILENO;
+use replay::print;
+use replay::print_bytes;
+use replay::print_flag;
+use replay::print8;
+use replay::print16;
 
 // The number of an announce.
 const ANNOUNCE: u8 = 0xb;
@@ -19,43 +23,6 @@ const MAX_FRAME: usize = 2048;
 
 // What lies where a message is written to.
 const UNWRITTEN: u8 = 0xa5;
-
-fn wide(x: u8) -> u64 {
-    x as u64
-}
-
-// Writes a space and a number of so many digits.
-fn print(x: u64, digits: usize) {
-    io::write_all(STDOUT_FILENO, b" ");
-    io::print_hex(STDOUT_FILENO, x, digits);
-}
-
-fn print8(x: u8) {
-    print(x as u64, 2);
-}
-
-fn print16(x: u16) {
-    print(x as u64, 4);
-}
-
-// Writes a space and a flag, or whether a number is negative.
-fn print_flag(set: bool) {
-    if set {
-        print(1, 1);
-    } else {
-        print(0, 1);
-    }
-}
-
-// Writes a space and bytes.
-fn print_bytes(s: &[u8]) {
-    io::write_all(STDOUT_FILENO, b" ");
-    let mut i = 0;
-    while i < s.len() {
-        io::print_hex(STDOUT_FILENO, wide(s[i]), 2);
-        i += 1;
-    }
-}
 
 fn print_flags(h: Header) {
     print_flag(h.alternate_master_flag);
@@ -158,7 +125,7 @@ fn answer_content(h: Header, content: &[u8]) {
 fn answer_frame(frame: &[u8]) {
     match header::deserialize_header(frame) {
         HeaderRead::Done(d) => {
-            io::print_hex(STDOUT_FILENO, 0, 2);
+            replay::print_first(0);
             print_header(d);
             print_header_again(d);
             let h = d.header;
@@ -168,47 +135,35 @@ fn answer_frame(frame: &[u8]) {
             }
         }
         HeaderRead::Refused(why) => {
-            io::print_hex(STDOUT_FILENO, wide(why), 2);
+            replay::print_first(why);
         }
     }
 }
 
-fn answer_bad() {
-    io::write_all(STDOUT_FILENO, b"bad line\n");
-}
-
-// Answers the line of n digits at the start of the buffer.
-fn answer(line: &[u8], n: usize)
-    requires { ⌜ n ≤ length (now line) ⌝ }
+// Answers the frame of n bytes at the start of the buffer.
+fn answer(bytes: &[u8], n: usize)
+    requires { ⌜ n ≤ length (now bytes) ⌝ }
 {
-    let mut bytes = [0u8; MAX_FRAME];
-    match hex_line::decode(&line[..n], &mut bytes) {
-        hex_line::Decoded::Bytes(size) => {
-            answer_frame(&bytes[..size]);
-            io::write_all(STDOUT_FILENO, b"\n");
-        }
-        hex_line::Decoded::Bad => {
-            answer_bad();
-        }
-    }
+    answer_frame(&bytes[..n]);
+    replay::print_end();
 }
 
 // Answers each line of the input. A proved loop has to end, and nothing says that the input does: the turns are counted down from a number
 // that no run uses up.
-fn run(block: &mut [u8], line: &mut [u8]) {
+fn run(block: &mut [u8], line: &mut [u8], bytes: &mut [u8]) {
     let mut place = input::Place::start();
     let mut turns = u64::MAX;
     while turns > 0 {
-        match input::next_line(place, block, line) {
-            input::Next::Line { count, place: next } => {
-                answer(line, count);
+        match replay::next_bytes(place, block, line, bytes) {
+            replay::Next::Bytes { count, place: next } => {
+                answer(bytes, count);
                 place = next;
             }
-            input::Next::TooLong { place: next } => {
-                answer_bad();
+            replay::Next::Bad { place: next } => {
+                replay::print_bad();
                 place = next;
             }
-            input::Next::End => {
+            replay::Next::End => {
                 return;
             }
         }
@@ -219,5 +174,6 @@ fn run(block: &mut [u8], line: &mut [u8]) {
 fn main() {
     let mut block = io::large_buffer();
     let mut line = io::buffer();
-    run(&mut block, &mut line);
+    let mut bytes = [0u8; MAX_FRAME];
+    run(&mut block, &mut line, &mut bytes);
 }

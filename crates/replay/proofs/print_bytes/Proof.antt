@@ -1,10 +1,10 @@
--- `replay_codec::print_bytes` is safe and ends: the loop stays within the bytes.
+-- `replay::print_bytes` is safe and ends: the loop stays within the bytes.
 -- Assumes nothing.
 use Prim.Native.Nat.{_-_, _≤_}
 use borrow.Author.Needs.{needs}
 use lib.ListN.{length}
-use Rattle.replay_codec.proofs.print_bytes.Statement.{statement}
-use Rattle.replay_codec.proofs.print_bytes.Tie as tie
+use Rattle.replay.proofs.print_bytes.Statement.{statement}
+use Rattle.replay.proofs.print_bytes.Tie as tie
 
 abbrev Inv-loop : tie.InvT-loop
 Inv-loop s i₀ i = i ≤ length s
