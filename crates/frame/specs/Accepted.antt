@@ -1,16 +1,20 @@
 -- Which frames are accepted: an announce whose length field says 64 bytes or more, no more than are given, and whose TLVs are even
 -- entries of which the last is not empty.
 -- Assumes nothing.
-use Prim.Native.Nat.{ℕ, zero, suc, _-_, _%_, _≤_}
-use mathlib.Core.Path.{_≡_, refl, sym, subst}
+use Prim.Native.Nat.{ℕ, zero, suc, _+_, _-_, _%_, _≤_}
+use mathlib.Core.Path.{_≡_, refl, sym, ap, _∙_, subst}
 use mathlib.Core.List.{List}
 use native.Mathlib.Omega.{arith}
-use lib.ListN.{length}
-use Rattle.wire.specs.Be.{Bytes, beAt}
-use Rattle.wire.specs.BeLaws.{bytes-part}
+use lib.ListN.{length, take, drop}
+use Rattle.wire.specs.Be.{Bytes, beAt, put}
+use Rattle.wire.specs.BeLaws.{bytes-part, length-put, part-put-before}
 use Rattle.header.specs.declared.MessageType.the-variants.{Announce}
 use Rattle.header.specs.declared.TypeRead.the-variants.{Known}
 use Rattle.header.specs.Types.{typeOf}
+use Rattle.header.specs.Wire.{headerAt}
+use Rattle.header.specs.RoundTrip.{Wired, header-kept}
+use Rattle.announce.specs.Wire.{contentAt}
+use Rattle.announce.specs.RoundTrip.{content-kept}
 use Rattle.tlv.specs.Tlv.{Tlv, checkList}
 use Rattle.tlv.specs.Builder.{listBytes}
 use Rattle.tlv.specs.Entries.{AllEven, LastFull, taken, taken-back}
@@ -59,3 +63,30 @@ accepted s m b e =
       },
       d .1,
     )
+
+-- ---- what follows the message
+
+-- bytes that are put after an accepted message leave the answer as it was
+pub later-ignored : (s : List ℕ) (m : Message) (k : ℕ) (bs : List ℕ) → readFrame s ≡ Done m → sizeAt s ≤ k → k + length bs ≤ length s
+    → readFrame (put s k bs) ≡ Done m
+unfolding readFrame
+later-ignored s m k bs e h le =
+    let d = done-none (frameRefusal s) (messageAt s) m e in
+    let p = frame-passed s (d .0) in
+    let f = p .front in
+    let w = header-kept s k bs (omega (arith, f .long)) (omega arith) in
+    let size : sizeAt (put s k bs) ≡ sizeAt s = ap (λ (x : Wired). x .size) w in
+    let tlvs : tlvsAt (put s k bs) ≡ tlvsAt s =
+    ap (λ (n : ℕ). take (n - 64) (drop 64 (put s k bs))) size ∙ part-put-before s 64 (sizeAt s - 64) k bs (omega (arith, f .long)) (omega arith) in
+    let content : contentAt (headerAt (put s k bs)) (put s k bs) 34 ≡ contentAt (headerAt s) s 34 =
+    ap (λ (x : Wired). contentAt (x .header) (put s k bs) 34) w ∙ content-kept (headerAt s) s 34 k bs (omega (arith, f .long)) (omega arith) in
+    sym (read-done (put s k bs) (frame-passes (put s k bs) (record {
+      front = record {
+        type = ap (λ (x : Wired). typeOf (x .type)) w ∙ f .type;
+        long = omega (arith, size, f .long);
+        there = omega (arith, size, f .there, length-put s k bs le);
+      };
+      tlvs = ap checkList tlvs ∙ p .tlvs;
+    })))
+    ∙ (λ i. Done (record { announce = content i; «tlv_start» = 64; «tlv_end» = size i }))
+    ∙ ap Done (sym (d .1))

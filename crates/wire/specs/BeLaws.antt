@@ -9,7 +9,7 @@ use native.Mathlib.Omega.{arith}
 use lib.Arith.{digits-lt, digits-div, digits-mod, mod-mul}
 use lib.Dec.{lit<}
 use lib.ListN.{length, getD, set, take, drop, length-append, length-drop, length-set, take-append-drop, List·getD-append}
-use lib.Seq.{take-length, take-add, take-take, drop-append-le, length-take-le, take-suc, getD-drop, getD-at, take-at, drop-at, take-set-le, drop-set-lt, getD-take, getD-append-add, drop-cons, getD-set-same, drop-append-add, drop-drop}
+use lib.Seq.{take-length, take-add, take-append-le, take-take, drop-append-le, length-take-le, take-suc, getD-drop, getD-at, take-at, drop-at, take-set-le, drop-set-lt, getD-take, getD-append-add, drop-cons, getD-set-same, drop-append-add, drop-drop}
 use Rattle.wire.specs.Be.{Bytes, beAt, bytesOf, put}
 
 -- ---- a number of n bytes
@@ -120,6 +120,10 @@ put-front s at bs cs le =
     rw split (drop-at (p ++ bs) (cs ++ rest) (at + length bs) (simp (length-append, here))) in
     rw (front, back) (simp append-assoc)
 
+-- a part is the end of a front
+cut-part : (s : List ℕ) (at n : ℕ) → at ≤ length s → take n (drop at s) ≡ drop at (take (at + n) s)
+cut-part s at n le = sym (ap (drop at) (take-add at n s) ∙ drop-at (take at s) (take n (drop at s)) at (length-take-le at s le))
+
 -- the run stands there
 pub part-put : (s : List ℕ) (at : ℕ) (bs : List ℕ) → at ≤ length s → take (length bs) (drop at (put s at bs)) ≡ bs
 unfolding put
@@ -127,6 +131,16 @@ part-put s at bs le =
     let rest = drop (at + length bs) s in
     let past : drop at (take at s ++ bs ++ rest) ≡ bs ++ rest = rw append-assoc (drop-at (take at s) (bs ++ rest) at (length-take-le at s le)) in
     rw past (take-at bs rest (length bs) refl)
+
+-- a part before it is as it was
+pub part-put-before : (s : List ℕ) (at n k : ℕ) (bs : List ℕ) → at + n ≤ k → k ≤ length s → take n (drop at (put s k bs)) ≡ take n (drop at s)
+unfolding put
+part-put-before s at n k bs le lk =
+    let out = take k s ++ bs ++ drop (k + length bs) s in
+    let front : take (at + n) out ≡ take (at + n) s =
+    rw (append-assoc, take-append-le (at + n) (take k s) (bs ++ drop (k + length bs) s) (rw (length-take-le k s lk) le)) (take-take (at + n) k s le) in
+    let long : at ≤ length out = simp (length-append, length-take-le k s lk) (omega arith) in
+    cut-part out at n long ∙ ap (drop at) front ∙ sym (cut-part s at n (omega arith))
 
 -- a byte outside the run is as it was
 pub getD-put-before : (s : List ℕ) (at : ℕ) (bs : List ℕ) (i : ℕ) → i < at → at ≤ length s → getD (put s at bs) i 0 ≡ getD s i 0
