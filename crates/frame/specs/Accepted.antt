@@ -64,6 +64,14 @@ accepted s m b e =
       d .1,
     )
 
+-- its TLVs are within the frame
+pub tlvs-within : (s : List ℕ) (m : Message) → readFrame s ≡ Done m → (m .«tlv_start» ≤ m .«tlv_end») × (m .«tlv_end» ≤ length s)
+unfolding readFrame
+tlvs-within s m e =
+    let d = done-none (frameRefusal s) (messageAt s) m e in
+    let p = frame-passed s (d .0) .front in
+    rw (d .1) (p .long, p .there)
+
 -- ---- what follows the message
 
 -- bytes that are put after an accepted message leave the answer as it was

@@ -15,6 +15,7 @@ use borrow.Author.Tests.{le-leb, lt-leb, eq-eqb, ne-eqb, leb-true, leb-false}
 use Rattle.wire.specs.Be.{bytesOf, put}
 use Rattle.wire.specs.BeLaws.{length-bytesOf, put-put, put-part}
 use Rattle.wire.specs.Write.{writeNumber, done, kept}
+use Rattle.tlv.specs.declared.TlvSetBuilder.{TlvSetBuilder}
 use Rattle.tlv.specs.declared.Added.the-variants.{Done, Refused}
 use Rattle.tlv.specs.Tlv.{Tlv}
 use Rattle.tlv.specs.Builder.{entryBytes, entryFits, entryAnswer, entryExit, addAnswer, addExit, added, addRead, answerOf, listBytes}
@@ -94,6 +95,17 @@ pub read-refused : (b v : List ℕ) (used n : ℕ) → addAnswer b used v ≡ n 
 unfolding addRead
 read-refused b v used zero e h = absurd (h refl)
 read-refused b v used (suc n) e h = rw e
+
+-- a builder that took an entry is within the buffer
+pub added-within : (s v : List ℕ) (used : ℕ) (after : TlvSetBuilder) → addRead s used v ≡ Done after → after .used ≤ length s
+unfolding addRead
+added-within s v used after e = by (addAnswer s used v) refl e
+  where
+    by : (n : ℕ) → addAnswer s used v ≡ n → added n (used + (length v + 4)) ≡ Done after → after .used ≤ length s
+    by zero z e =
+        let same : (record { used = used + (length v + 4) }) ≡ after = cc in
+        omega (arith, ap (λ (x : TlvSetBuilder). x .used) same, done _ _ s s z .room)
+    by (suc n) z e = absurd (let f : _≡_ {A = ℕ} 0 1 = cc in omega arith)
 
 -- in the paper's numbers
 pub add-answer : (b v : List ℕ) (used : ℕ)
