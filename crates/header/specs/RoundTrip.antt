@@ -1,7 +1,7 @@
 -- The header as a codec: reading what was written gives the same values.
 -- Assumes nothing.
 use Prim.Native.Nat.{ℕ, _+_, _*_, _/_, _%_, _^_, _≤_, _<_, zero-le}
-use mathlib.Core.Path.{_≡_, refl, sym, ap, ap₂, _∙_}
+use mathlib.Core.Path.{_≡_, refl, sym, ap, _∙_}
 use mathlib.Core.Bool.{cond}
 use mathlib.Core.List.{List}
 use native.Mathlib.Omega.{arith}
@@ -205,11 +205,6 @@ pub header-kept : (s : List ℕ) (k : ℕ) (bs : List ℕ) → 34 ≤ k → k �
 unfolding headerCodec headerWidths
 header-kept s k bs h le =
     by-layout (put s k bs) ∙ ap fromValues (fields-before headerWidths s 0 k bs (omega arith) le) ∙ sym (by-layout s)
-
--- and so is what the reader answers
-pub read-kept : (s : List ℕ) (k : ℕ) (bs : List ℕ) → 34 ≤ k → k + length bs ≤ length s → readHeader (put s k bs) ≡ readHeader s
-read-kept s k bs h le =
-    by-wired (put s k bs) ∙ ap₂ readWired (length-put s k bs le) (header-kept s k bs h (omega arith)) ∙ sym (by-wired s)
 
 pub bytes-withHeader : (s : List ℕ) (h : Header) (t : MessageType) (size : ℕ) → Bytes s → Bytes (withHeader s h t size)
 unfolding withHeader

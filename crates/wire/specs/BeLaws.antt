@@ -107,19 +107,6 @@ put-over s at bs cs e le =
     rw e (drop-at (take at s ++ bs) (drop (at + length bs) s) (at + length bs) (simp (length-append, here))) in
     rw (front, back)
 
--- the front of a run over the run
-pub put-front : (s : List ℕ) (at : ℕ) (bs cs : List ℕ) → at ≤ length s → put (put s at (bs ++ cs)) at bs ≡ put s at (bs ++ cs)
-unfolding put
-put-front s at bs cs le =
-    let p = take at s in
-    let rest = drop (at + length (bs ++ cs)) s in
-    let here : length p ≡ at = length-take-le at s le in
-    let front : take at (p ++ (bs ++ cs) ++ rest) ≡ p = rw append-assoc (take-at p ((bs ++ cs) ++ rest) at here) in
-    let split : p ++ (bs ++ cs) ++ rest ≡ (p ++ bs) ++ (cs ++ rest) = simp append-assoc in
-    let back : drop (at + length bs) (p ++ (bs ++ cs) ++ rest) ≡ cs ++ rest =
-    rw split (drop-at (p ++ bs) (cs ++ rest) (at + length bs) (simp (length-append, here))) in
-    rw (front, back) (simp append-assoc)
-
 -- a part is the end of a front
 cut-part : (s : List ℕ) (at n : ℕ) → at ≤ length s → take n (drop at s) ≡ drop at (take (at + n) s)
 cut-part s at n le = sym (ap (drop at) (take-add at n s) ∙ drop-at (take at s) (take n (drop at s)) at (length-take-le at s le))
@@ -217,9 +204,6 @@ unfolding beAt
 beAt-drop s a at zero = refl
 beAt-drop s a at (suc n) =
     ap₂ (λ (x y : ℕ). x * 256 + y) (beAt-drop s a at n) (getD-drop a s (at + n) 0 ∙ ap (λ (i : ℕ). getD s i 0) (sym (add-assoc a at n)))
-
-pub beAt-take : (s : List ℕ) (k at n : ℕ) → at + n ≤ k → beAt (take k s) at n ≡ beAt s at n
-beAt-take s k at n le = beAt-same (take k s) s at n (λ i lo hi. getD-take k s i 0 (omega arith))
 
 put-drop : (s : List ℕ) (a at : ℕ) (bs : List ℕ) → take a s ++ put (drop a s) at bs ≡ put s (a + at) bs
 unfolding put
