@@ -25,7 +25,7 @@ pub enum TlvRead {
 }
 
 // How many bytes stand before the value of an entry: its type and its length.
-pub const TLV_HEADER_SIZE: usize = 4;
+const TLV_HEADER_SIZE: usize = 4;
 
 // An entry is read while so many bytes remain; fewer are left over.
 const LEAST_LEFT: usize = 5;
