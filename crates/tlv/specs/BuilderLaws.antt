@@ -119,7 +119,7 @@ add-answer b v used = by (addAnswer b used v)
 
 -- ---- a list that grows
 
-list-more : (es : List Tlv) (e : Tlv) → listBytes (es ++ (e ∷ [])) ≡ listBytes es ++ entryBytes (e .type) (e .value)
+pub list-more : (es : List Tlv) (e : Tlv) → listBytes (es ++ (e ∷ [])) ≡ listBytes es ++ entryBytes (e .type) (e .value)
 unfolding listBytes
 list-more [] e = append-nil (entryBytes (e .type) (e .value))
 list-more (f ∷ es) e =

@@ -7,16 +7,16 @@ use mathlib.Core.List.{List, [], _∷_, _++_, append-assoc}
 use native.Mathlib.Nat.{not-suc-le-zero}
 use native.Mathlib.Omega.{arith}
 use lib.ListN.{length, take, drop, length-append, length-drop, take-append-drop}
-use lib.Seq.{drop-at, drop-drop, getD-drop, length-take-le}
+use lib.Seq.{drop-at, take-at, drop-drop, getD-drop, length-take-le}
 use borrow.Author.Tests.{eqb-true, eq-eqb}
 use Rattle.wire.specs.Be.{Bytes, beAt, bytesOf}
 use Rattle.wire.specs.BeLaws.{beAt-bound, length-bytesOf, be-bytes, bytes-be}
 use Rattle.tlv.specs.declared.TlvCursor.{TlvCursor}
 use Rattle.tlv.specs.declared.TlvRead.{TlvRead}
 use Rattle.tlv.specs.declared.TlvRead.the-variants.{Entry, End, Refused}
-use Rattle.tlv.specs.Tlv.{Tlv, leastLeft, entryAt, checkRead, listCheck, checkList, wholeEntries}
+use Rattle.tlv.specs.Tlv.{Tlv, leastLeft, entryAt, readAt, checkRead, listCheck, checkList, wholeEntries}
 use Rattle.tlv.specs.Builder.{entryBytes, listBytes}
-use Rattle.tlv.specs.BuilderLaws.{length-entryBytes}
+use Rattle.tlv.specs.BuilderLaws.{length-entryBytes, list-more}
 use Rattle.tlv.specs.Laws.{Read, read-none, read-entry, entry-read, none-read, refusal-read, unrolled}
 
 -- an entry that the wire can hold: a type of 16 bits, a value of even length that fits the length field
@@ -62,42 +62,76 @@ pub four-remain : (es : List Tlv) → Remain 4 es
 four-remain [] = tt
 four-remain (e ∷ es) = (omega (arith, length-list e es), four-remain es)
 
--- ---- the bytes of entries pass
+-- ---- an entry is read where its bytes stand
 
-module _ (e : Tlv) (rest : List ℕ) (v : Even e) where
+-- after the bytes p, and before the rest
+module _ (p : List ℕ) (e : Tlv) (rest : List ℕ) (v : Even e) where
   abbrev s : List ℕ
-  s = entryBytes (e .type) (e .value) ++ rest
+  s = p ++ (entryBytes (e .type) (e .value) ++ rest)
 
-  type-read : beAt s 0 2 ≡ e .type
+  type-read : beAt s (length p) 2 ≡ e .type
   unfolding entryBytes
   type-read =
       let b = bytesOf 2 (length (e .value)) in
-      let same : s ≡ [] ++ bytesOf 2 (e .type) ++ (b ++ (e .value ++ rest)) = simp append-assoc in
+      let same : s ≡ p ++ bytesOf 2 (e .type) ++ (b ++ (e .value ++ rest)) = simp append-assoc in
       let small : e .type % 65536 ≡ e .type = omega (arith, v .type) in
-      rw same (be-bytes 2 (e .type) [] (b ++ (e .value ++ rest)) ∙ small)
+      rw same (be-bytes 2 (e .type) p (b ++ (e .value ++ rest)) ∙ small)
 
-  size-read : beAt s 2 2 ≡ length (e .value)
+  size-read : beAt s (length p + 2) 2 ≡ length (e .value)
   unfolding entryBytes
   size-read =
-      let t = bytesOf 2 (e .type) in
-      let same : s ≡ t ++ bytesOf 2 (length (e .value)) ++ (e .value ++ rest) = simp append-assoc in
+      let t = p ++ bytesOf 2 (e .type) in
+      let b = bytesOf 2 (length (e .value)) in
+      let same : s ≡ t ++ b ++ (e .value ++ rest) = simp append-assoc in
+      let here : length t ≡ length p + 2 = simp (length-append, length-bytesOf) in
       let small : length (e .value) % 65536 ≡ length (e .value) = omega (arith, v .fits) in
       rw same
-      (subst (λ (k : ℕ). beAt (t ++ bytesOf 2 (length (e .value)) ++ (e .value ++ rest)) k 2 ≡ length (e .value)) (length-bytesOf 2 (e .type))
+      (subst (λ (k : ℕ). beAt (t ++ b ++ (e .value ++ rest)) k 2 ≡ length (e .value)) here
       (be-bytes 2 (length (e .value)) t (e .value ++ rest) ∙ small))
 
-  long : length s ≡ length (e .value) + 4 + length rest
+  long : length s ≡ length p + (length (e .value) + 4 + length rest)
   long = simp (length-append, length-entryBytes)
 
-  -- the entry that is read at the start
-  first-read : (least : ℕ) → least ≤ length s
-      → entryAt least s 0 ≡ Entry (beAt s 0 2) 4 (beAt s 2 2) (record { at = 4 + beAt s 2 2 })
-  first-read least h =
-      sym (read-entry least s 0 (omega (arith, long)) (omega arith) (ap (λ (n : ℕ). n % 2) size-read ∙ v .even) (omega (arith, long, size-read)))
+  read-there : (least : ℕ) → least ≤ length (e .value) + 4 + length rest
+      → entryAt least s (length p) ≡ Entry (e .type) (length p + 4) (length (e .value)) (record { at = length p + 4 + length (e .value) })
+  read-there least h =
+      sym (read-entry least s (length p) (omega (arith, long)) (omega (arith, long)) (ap (λ (n : ℕ). n % 2) size-read ∙ v .even) (omega (arith, long, size-read)))
+      ∙ (λ i. Entry (type-read i) (length p + 4) (size-read i) (record { at = length p + 4 + size-read i }))
+
+  -- its value stands after the four bytes
+  value-there : take (length (e .value)) (drop (length p + 4) s) ≡ e .value
+  unfolding entryBytes
+  value-there =
+      let t = p ++ bytesOf 2 (e .type) ++ bytesOf 2 (length (e .value)) in
+      let same : s ≡ t ++ (e .value ++ rest) = simp append-assoc in
+      let here : length t ≡ length p + 4 = simp (length-append, length-bytesOf) (omega arith) in
+      rw (same, drop-at t (e .value ++ rest) (length p + 4) here) (take-at (e .value) rest (length (e .value)) refl)
 
   -- and what follows it
-  rest-read : drop (4 + beAt s 2 2) s ≡ rest
-  rest-read = drop-at (entryBytes (e .type) (e .value)) rest (4 + beAt s 2 2) (omega (arith, length-entryBytes (e .type) (e .value), size-read))
+  rest-there : drop (length p + 4 + length (e .value)) s ≡ rest
+  rest-there =
+      let t = p ++ entryBytes (e .type) (e .value) in
+      let same : s ≡ t ++ rest = simp append-assoc in
+      rw same (drop-at t rest (length p + 4 + length (e .value)) (simp (length-append, length-entryBytes) (omega arith)))
+
+-- of a list that a reader takes, the cursor shows each entry at its place, the next place being that of the next entry
+pub shown : (before : List Tlv) (e : Tlv) (after : List Tlv) → Even e → LastFull (e ∷ after)
+    → (readAt (listBytes before ++ listBytes (e ∷ after)) (length (listBytes before))
+    ≡ Entry (e .type) (length (listBytes before) + 4) (length (e .value)) (record { at = length (listBytes (before ++ (e ∷ []))) }))
+    × (take (length (e .value)) (drop (length (listBytes before) + 4) (listBytes before ++ listBytes (e ∷ after))) ≡ e .value)
+unfolding listBytes
+shown before e after v f =
+    let p = listBytes before in
+    let rest = listBytes after in
+    let least = full-remain (e ∷ after) f .0 in
+    let next : length p + 4 + length (e .value) ≡ length (listBytes (before ++ (e ∷ []))) =
+    rw (list-more before e, length-append, length-entryBytes) (omega arith) in (
+      read-there p e rest v leastLeft (omega (arith, least, length-list e after))
+          ∙ ap (λ (n : ℕ). Entry (e .type) (length p + 4) (length (e .value)) (record { at = n })) next,
+      value-there p e rest v,
+    )
+
+-- ---- the bytes of entries pass
 
 pub entries-pass : (least : ℕ) (es : List Tlv) → AllEven es → Remain least es → listCheck least (listBytes es) ≡ 0
 unfolding listBytes
@@ -106,8 +140,8 @@ entries-pass least (e ∷ es) v h =
     let rest = listBytes es in
     let s = entryBytes (e .type) (e .value) ++ rest in
     unrolled least s
-    ∙ ap (checkRead (listCheck least) s) (first-read e rest (v .0) least (h .0))
-    ∙ ap (listCheck least) (rest-read e rest (v .0))
+    ∙ ap (checkRead (listCheck least) s) (read-there [] e rest (v .0) least (omega (arith, h .0, length-list e es)))
+    ∙ ap (listCheck least) (rest-there [] e rest (v .0))
     ∙ entries-pass least es (v .1) (h .1)
 
 -- ---- and what passes is the bytes of entries
