@@ -21,6 +21,20 @@ pub const F: [u8; 64] = *b"\
     \x00\x00\x00\x00\x00\x00\x00\x01\
     \x00\x00\x20";
 
+// F(1), and six bytes that are no part of it.
+pub const LONG: [u8; 70] = *b"\
+    \x0B\x02\x00\x40\x00\x00\x00\x00\
+    \x00\x00\x00\x00\x00\x00\x00\x00\
+    \x00\x00\x00\x00\
+    \x00\x00\x00\x00\x00\x00\x00\x01\x00\x01\
+    \x00\x01\x05\x00\
+    \x00\x00\x00\x00\x00\x00\x00\x00\x00\x00\
+    \x00\x00\x00\x80\
+    \x06\x20\x4E\x5D\x80\
+    \x00\x00\x00\x00\x00\x00\x00\x01\
+    \x00\x00\x20\
+    \x00\x08\x00\x02\xA5\x5A";
+
 // What a frame holds.
 pub struct Message {
     pub kind: MessageType,
@@ -80,6 +94,11 @@ pub fn f_content(h: Header) -> AnnounceMessage {
         steps_removed: 0,
         time_source: 0x20,
     }
+}
+
+// The message F(1).
+pub fn f_message() -> AnnounceMessage {
+    f_content(f_header(1))
 }
 
 // An announce message whose length field says 64.

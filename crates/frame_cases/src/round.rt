@@ -1,0 +1,100 @@
+// Cases of messages that are written and read, and of frames that are read and written again.
+use crate::writing;
+use frame::FrameRead;
+use vectors::frames;
+use vectors::frames::F;
+use vectors::framing;
+use vectors::same;
+use vectors::up;
+use vectors::up::UP;
+use vectors::up::UP_AGAIN;
+
+// F(1), or the message whose bytes differ, with these TLVs: written and read.
+fn back(n: u64, tlvs: &[u8]) -> bool {
+    if n % 2 == 0 {
+        return writing::read_back(frames::f_message(), F, tlvs, 0);
+    }
+    writing::read_back(up::up_content(), UP_AGAIN, tlvs, 0)
+}
+
+pub fn written_read(n: u64) -> bool {
+    match n / 2 {
+        0 => back(n, b""),
+        1 => back(n, b"\x00\x08\x00\x02\x01\x02"),
+        2 => back(n, b"\x00\x08\x00\x00\x00\x08\x00\x02\x01\x02"),
+        3 => back(n, b"\x40\x00\x00\x04\xAA\xBB\xCC\xDD\xFF\xFF\x00\x02\x00\x00"),
+        4 => back(n, b"\x00\x08\x00\x08\x00\x08\x00\x01\x00\x08\x00\x01"),
+        _ => back(
+            n,
+            b"\x00\x00\x00\x00\x80\x09\x00\x02\x11\x22\x7F\xFF\x00\x02\x33\x44",
+        ),
+    }
+}
+
+// Reads a frame and writes it again with its TLVs: the answer, or that of the reader.
+pub fn rewrite(s: &[u8], target: &mut [u8]) -> u8 {
+    match frame::read_frame(s) {
+        FrameRead::Done(m) => {
+            let a = m.announce;
+            let start = m.tlv_start;
+            let end = m.tlv_end;
+            if s.len() < end {
+                return 255;
+            }
+            if end < start {
+                return 255;
+            }
+            frame::write_frame(a, &s[start..end], target)
+        }
+        FrameRead::Refused(n) => n,
+    }
+}
+
+// Whether a frame of these 64 bytes and TLVs, written again over bytes of 55, gives those 64 bytes and the TLVs, and does so a
+// second time.
+fn twice(head: [u8; 64], tlvs: &[u8], again: [u8; 64]) -> bool {
+    let mut frame = [0xA5u8; 96];
+    let mut target = [0x55u8; 96];
+    let mut want = [0x55u8; 96];
+    framing::lay(&mut frame, &head, tlvs);
+    framing::lay(&mut want, &again, tlvs);
+    let one = rewrite(&frame, &mut target);
+    let once = target;
+    let two = rewrite(&once, &mut target);
+    (one == 0) & (two == 0) & same::holds(&once, &want, 0) & same::holds(&target, &want, 0)
+}
+
+// F(1) with all bits that are ignored, and with each control byte, each byte 46 and each of bytes 16 to 19.
+pub fn ignored(n: u64) -> bool {
+    let v = (n % 256) as u8;
+    let mut head = F;
+    let mut again = F;
+    head[6] = 0x98;
+    head[7] = 0x80;
+    head[16] = v;
+    head[17] = 255 - v;
+    head[18] = v;
+    head[19] = 255;
+    head[32] = v;
+    head[46] = v;
+    again[46] = 0x55;
+    let mut frame = [0xA5u8; 96];
+    framing::lay(&mut frame, &head, b"\x00\x08\x00\x02\x01\x02");
+    framing::f_answers(&frame, 0, 70) & twice(head, b"\x00\x08\x00\x02\x01\x02", again)
+}
+
+// The frame whose bytes differ, with these TLVs.
+fn up_twice(tlvs: &[u8]) -> bool {
+    twice(UP, tlvs, UP_AGAIN)
+}
+
+pub fn again(n: u64) -> bool {
+    match n {
+        0 => up_twice(b""),
+        1 => up_twice(b"\x00\x08\x00\x02\x01\x02"),
+        2 => up_twice(b"\x00\x08\x00\x00\x00\x08\x00\x02\x01\x02"),
+        3 => up_twice(b"\x40\x00\x00\x04\xAA\xBB\xCC\xDD\xFF\xFF\x00\x02\x00\x00"),
+        4 => up_twice(b"\x00\x08\x00\x08\x00\x08\x00\x01\x00\x08\x00\x01"),
+        _ => up_twice(b"\x00\x00\x00\x00\x80\x09\x00\x02\x11\x22\x7F\xFF\x00\x02\x33\x44"),
+    }
+}
