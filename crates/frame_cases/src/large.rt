@@ -97,7 +97,11 @@ fn gives(tlvs: &[u8], room: usize, answer: u8) -> bool {
     same::fill(&mut target);
     framing::lay(&mut want, &F, tlvs);
     want[46] = same::laid(46);
-    let end = if answer == 0 { 64 + tlvs.len() % 65536 } else { 0 };
+    let end = if answer == 0 {
+        64 + tlvs.len() % 65536
+    } else {
+        0
+    };
     let got = framing::write(frames::f_message(), tlvs, &mut target, room);
     (got == answer) & same::holds_over(&target, framing::first(&want, end))
 }

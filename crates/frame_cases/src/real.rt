@@ -83,6 +83,7 @@ const PADDED: [u8; 78] = *b"\
     \x00\x00";
 
 const GRANDMASTER_IDENTITY: u64 = 0x0200_00FF_FE00_0001;
+
 const BOUNDARY_IDENTITY: u64 = 0x0200_00FF_FE00_0002;
 
 fn header_of(clock: u64, port: u16, sequence: u16, traceable: bool) -> Header {

@@ -9,6 +9,7 @@ use vectors::same;
 
 // A TLV, and one after an empty one.
 const ENTRY: [u8; 6] = *b"\x00\x08\x00\x02\x01\x02";
+
 const AFTER_EMPTY: [u8; 10] = *b"\x00\x08\x00\x00\x00\x08\x00\x02\x01\x02";
 
 // The message F(1) with the sdo, the versions and the seconds as told.
