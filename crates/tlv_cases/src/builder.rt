@@ -140,8 +140,24 @@ pub fn refusal(n: u64) -> bool {
     }
 }
 
-// A value of a size, added after so many used bytes of a room.
-fn long(size: usize, used: usize, room: usize, number: u8) -> bool {
+// Lays an entry of type 8 whose length field says 65,534 from at on, where there is room.
+fn lay_long(target: &mut [u8], at: usize, value: &[u8]) {
+    if 8 < at {
+        return;
+    }
+    if 65534 < value.len() {
+        return;
+    }
+    if target.len() < 12 + value.len() {
+        return;
+    }
+    wire::put_be(target, at, 4, 0x0008_FFFE);
+    wire::put_bytes(target, at + 4, value);
+}
+
+// A value of a size, added after so many used bytes of a room: refused with this number or, where that is 0, written up to this
+// end.
+fn long(size: usize, used: usize, room: usize, number: u8, end: usize) -> bool {
     let value = [0x5Au8; 65600];
     let mut target = [0u8; 65600];
     let mut want = [0u8; 65600];
@@ -152,26 +168,25 @@ fn long(size: usize, used: usize, room: usize, number: u8) -> bool {
     if number != 0 {
         return is_refused(r, number) & same::holds_over(&target, b"");
     }
-    wire::put_be(&mut want, used % 8, 4, 0x0008_FFFE);
-    wire::put_bytes(&mut want, 4 + used % 8, &value[0..65534]);
-    is_used(r, used % 8 + 65538) & same::holds_over(&target, &want)
+    lay_long(&mut want, used, part);
+    is_used(r, end) & same::holds_over(&target, &want)
 }
 
 pub fn long_value(n: u64) -> bool {
     match n {
-        0 => long(65534, 0, 65538, 0),
-        1 => long(65534, 0, 65537, 1),
-        2 => long(65534, 0, 65600, 0),
-        3 => long(65534, 6, 65544, 0),
-        4 => long(65534, 6, 65543, 1),
-        5 => long(65536, 0, 65600, 15),
-        6 => long(65536, 0, 0, 15),
-        7 => long(65535, 0, 65600, 15),
-        8 => long(65538, 0, 65600, 15),
-        9 => long(65536, usize::MAX, 65600, 15),
-        10 => long(65533, 0, 65600, 15),
-        11 => long(65534, 0, 0, 1),
-        _ => long(65534, usize::MAX, 65600, 1),
+        0 => long(65534, 0, 65538, 0, 65538),
+        1 => long(65534, 0, 65537, 1, 0),
+        2 => long(65534, 0, 65600, 0, 65538),
+        3 => long(65534, 6, 65544, 0, 65544),
+        4 => long(65534, 6, 65543, 1, 0),
+        5 => long(65536, 0, 65600, 15, 0),
+        6 => long(65536, 0, 0, 15, 0),
+        7 => long(65535, 0, 65600, 15, 0),
+        8 => long(65538, 0, 65600, 15, 0),
+        9 => long(65536, usize::MAX, 65600, 15, 0),
+        10 => long(65533, 0, 65600, 15, 0),
+        11 => long(65534, 0, 0, 1, 0),
+        _ => long(65534, usize::MAX, 65600, 1, 0),
     }
 }
 
