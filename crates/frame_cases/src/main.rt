@@ -1,11 +1,9 @@
-// Runs the reader and the writer of frames over cases whose answers paper 01 gives, and writes for each group how many cases it
-// has and how many are wrong.
+// Runs the reader of frames over cases whose answers paper 01 gives, and writes for each group how many cases it has and how many
+// are wrong.
 mod large;
 mod lengths;
 mod order;
 mod real;
-mod round;
-mod writing;
 
 use vectors::tally::Tally;
 
@@ -16,19 +14,10 @@ enum Group {
     OddLengthField,
     Typed,
     Order,
-    LargeRead,
-    ManyRead,
-    LargeWritten,
-    EmptyWritten,
+    Large,
+    Many,
     Real,
-    RealDamaged,
-    Unfit,
-    Fit,
-    Short,
-    EmptyLast,
-    WrittenRead,
-    Ignored,
-    Again,
+    Cut,
 }
 
 // Whether the case of a number is right.
@@ -40,19 +29,10 @@ fn right(group: Group, n: u64) -> bool {
         Group::OddLengthField => lengths::odd_length_field(n),
         Group::Typed => order::typed(n),
         Group::Order => order::order(n),
-        Group::LargeRead => large::read(n),
-        Group::ManyRead => large::many(n),
-        Group::LargeWritten => large::written(n),
-        Group::EmptyWritten => large::empty(n),
+        Group::Large => large::read(n),
+        Group::Many => large::many(n),
         Group::Real => real::frame(n),
-        Group::RealDamaged => real::damaged(n),
-        Group::Unfit => writing::unfit(n),
-        Group::Fit => writing::fit(n),
-        Group::Short => writing::short(n),
-        Group::EmptyLast => writing::empty_last(n),
-        Group::WrittenRead => round::written_read(n),
-        Group::Ignored => round::ignored(n),
-        Group::Again => round::again(n),
+        Group::Cut => real::damaged(n),
     }
 }
 
@@ -65,7 +45,7 @@ fn run(name: &[u8], group: Group, cases: u64) {
     t.report(name);
 }
 
-fn reading() {
+fn lengths_and_types() {
     run(b"lengths 0 to 70", Group::Given, 71);
     run(b"lengths 0 to 70 of a frame of 70", Group::GivenTlv, 71);
     run(b"length field, every value", Group::LengthField, 65536);
@@ -76,33 +56,16 @@ fn reading() {
     );
     run(b"types at six length fields", Group::Typed, 192);
     run(b"the order of the checks", Group::Order, 30);
+}
+
+fn whole_frames() {
+    run(b"longest messages", Group::Large, 16);
+    run(b"10,912 entries", Group::Many, 10);
     run(b"real announce frames", Group::Real, 5);
-    run(
-        b"real announce frames, each length field below theirs",
-        Group::RealDamaged,
-        380,
-    );
-}
-
-fn long_messages() {
-    run(b"longest messages read", Group::LargeRead, 16);
-    run(b"10,911 entries read", Group::ManyRead, 10);
-    run(b"longest messages written", Group::LargeWritten, 12);
-    run(b"empty entries written", Group::EmptyWritten, 4);
-}
-
-fn writing_groups() {
-    run(b"what will not fit, at four rooms", Group::Unfit, 100);
-    run(b"the nearest that fits", Group::Fit, 14);
-    run(b"rooms of 0 to 96", Group::Short, 194);
-    run(b"an empty last entry", Group::EmptyLast, 6);
-    run(b"written, then read", Group::WrittenRead, 12);
-    run(b"bits that are ignored", Group::Ignored, 256);
-    run(b"read, and written again twice", Group::Again, 6);
+    run(b"real announce frames, cut", Group::Cut, 380);
 }
 
 fn main() {
-    reading();
-    long_messages();
-    writing_groups();
+    lengths_and_types();
+    whole_frames();
 }

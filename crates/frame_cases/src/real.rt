@@ -1,7 +1,6 @@
 // Announce frames that ptp4l of linuxptp 3.1.1 sent, with path_trace_enabled 1, free_running 1, logAnnounceInterval 0 and
 // software time stamps: a grandmaster (priority1 100, clockClass 6, clockAccuracy 0x20, offsetScaledLogVariance 0x4E5D,
 // timeSource 0x20) and a boundary clock behind it. They were recorded at the next interface.
-use crate::round;
 use announce::AnnounceMessage;
 use announce::ClockQuality;
 use header::Header;
@@ -161,7 +160,7 @@ fn tlvs_of(s: &[u8], end: usize) -> &[u8] {
 // Whether a frame reads as wanted, with one path trace, and written again over zeros is what it was up to its end.
 fn whole(s: &[u8], want: AnnounceMessage, size: usize, end: usize) -> bool {
     let mut target = [0u8; 96];
-    let answer = round::rewrite(s, &mut target);
+    let answer = framing::rewrite(s, &mut target);
     framing::answers(s, 0, want, end)
         & path(tlvs_of(s, end), size)
         & (answer == 0)

@@ -154,3 +154,32 @@ pub fn left_over(n: u64) -> bool {
         _ => with_rest(rest, 0xFF, if five { 4 } else { left }),
     }
 }
+
+// What a writer takes: whole even entries, of which any may be empty.
+pub fn whole(n: u64) -> bool {
+    match n {
+        0 => tlv::whole_entries(b""),
+        1 => tlv::whole_entries(b"\x00\x08\x00\x00"),
+        2 => tlv::whole_entries(b"\x00\x08\x00\x02\x01\x02"),
+        3 => tlv::whole_entries(b"\x00\x08\x00\x02\x01\x02\x00\x08\x00\x00"),
+        4 => tlv::whole_entries(b"\x00\x08\x00\x00\x00\x08\x00\x00"),
+        5 => tlv::whole_entries(b"\x00\x08\x00\x00\x00\x08\x00\x02\x01\x02"),
+        _ => !takes_damaged(n),
+    }
+}
+
+// Whether it takes a list that is not made of such entries.
+fn takes_damaged(n: u64) -> bool {
+    match n {
+        6 => tlv::whole_entries(b"\x00"),
+        7 => tlv::whole_entries(b"\x00\x08"),
+        8 => tlv::whole_entries(b"\x00\x08\x00"),
+        9 => tlv::whole_entries(b"\x00\x08\x00\x01"),
+        10 => tlv::whole_entries(b"\x00\x08\x00\x02"),
+        11 => tlv::whole_entries(b"\x00\x08\x00\x02\x01"),
+        12 => tlv::whole_entries(b"\x00\x08\x00\x01\x01"),
+        13 => tlv::whole_entries(b"\x00\x08\x00\x01\x01\x02"),
+        14 => tlv::whole_entries(b"\x00\x08\x00\x02\x01\x02\x00\x08\x00"),
+        _ => tlv::whole_entries(b"\x00\x08\x00\x02\x01\x02\x00\x08\xFF\xFE"),
+    }
+}

@@ -1,6 +1,5 @@
-// Runs the calls of tlv over cases whose answers paper 01 gives, and writes for each group how many cases it has and how many
-// are wrong.
-mod builder;
+// Runs the calls that read TLVs over cases whose answers paper 01 gives, and writes for each group how many cases it has and how
+// many are wrong.
 mod kinds;
 mod lists;
 mod places;
@@ -13,17 +12,12 @@ enum Group {
     LaterLength,
     List,
     LeftOver,
+    Whole,
     Place,
     DamagedPlace,
     Walk,
     Number,
     Name,
-    Entry,
-    EntryType,
-    Used,
-    Refusal,
-    LongValue,
-    Two,
 }
 
 // Whether the case of a number is right.
@@ -33,17 +27,12 @@ fn right(group: Group, n: u64) -> bool {
         Group::LaterLength => lists::later_length(n),
         Group::List => lists::list(n),
         Group::LeftOver => lists::left_over(n),
+        Group::Whole => lists::whole(n),
         Group::Place => places::place(n),
         Group::DamagedPlace => places::damaged(n),
         Group::Walk => places::walk(n),
         Group::Number => kinds::number(n),
         Group::Name => kinds::name(n),
-        Group::Entry => builder::entry(n),
-        Group::EntryType => builder::entry_type(n),
-        Group::Used => builder::used(n),
-        Group::Refusal => builder::refusal(n),
-        Group::LongValue => builder::long_value(n),
-        Group::Two => builder::two(n),
     }
 }
 
@@ -69,27 +58,18 @@ fn reading() {
     );
     run(b"lists", Group::List, 36);
     run(b"bytes left over", Group::LeftOver, 36);
+    run(b"lists for a writer", Group::Whole, 16);
+}
+
+fn places_and_kinds() {
     run(b"places in a list", Group::Place, 26);
     run(b"places in damaged lists", Group::DamagedPlace, 19);
     run(b"from entry to entry", Group::Walk, 4);
-}
-
-fn kinds_of_numbers() {
     run(b"kinds, every number", Group::Number, 65536);
     run(b"kinds by name", Group::Name, 32);
 }
 
-fn building() {
-    run(b"an entry in rooms of 0 to 32", Group::Entry, 99);
-    run(b"an entry of every type", Group::EntryType, 65536);
-    run(b"used bytes of 0 to 40", Group::Used, 82);
-    run(b"refusals of the builder", Group::Refusal, 16);
-    run(b"longest values", Group::LongValue, 13);
-    run(b"two entries after each other", Group::Two, 6);
-}
-
 fn main() {
     reading();
-    kinds_of_numbers();
-    building();
+    places_and_kinds();
 }

@@ -50,3 +50,22 @@ pub fn write(a: AnnounceMessage, tlvs: &[u8], target: &mut [u8], size: usize) ->
     }
     frame::write_frame(a, tlvs, &mut target[0..size])
 }
+
+// Reads a frame and writes it again with its TLVs: the answer, or that of the reader.
+pub fn rewrite(s: &[u8], target: &mut [u8]) -> u8 {
+    match frame::read_frame(s) {
+        FrameRead::Done(m) => {
+            let a = m.announce;
+            let start = m.tlv_start;
+            let end = m.tlv_end;
+            if s.len() < end {
+                return 255;
+            }
+            if end < start {
+                return 255;
+            }
+            frame::write_frame(a, &s[start..end], target)
+        }
+        FrameRead::Refused(n) => n,
+    }
+}

@@ -1,6 +1,5 @@
 // Cases of messages that are written and read, and of frames that are read and written again.
 use crate::writing;
-use frame::FrameRead;
 use vectors::frames;
 use vectors::frames::F;
 use vectors::framing;
@@ -34,25 +33,6 @@ pub fn written_read(n: u64) -> bool {
     }
 }
 
-// Reads a frame and writes it again with its TLVs: the answer, or that of the reader.
-pub fn rewrite(s: &[u8], target: &mut [u8]) -> u8 {
-    match frame::read_frame(s) {
-        FrameRead::Done(m) => {
-            let a = m.announce;
-            let start = m.tlv_start;
-            let end = m.tlv_end;
-            if s.len() < end {
-                return 255;
-            }
-            if end < start {
-                return 255;
-            }
-            frame::write_frame(a, &s[start..end], target)
-        }
-        FrameRead::Refused(n) => n,
-    }
-}
-
 // Whether a frame of these 64 bytes and TLVs, written again over bytes of 55, gives those 64 bytes and the TLVs, and does so a
 // second time.
 fn twice(head: [u8; 64], tlvs: &[u8], again: [u8; 64]) -> bool {
@@ -61,9 +41,9 @@ fn twice(head: [u8; 64], tlvs: &[u8], again: [u8; 64]) -> bool {
     let mut want = [0x55u8; 96];
     framing::lay(&mut frame, &head, tlvs);
     framing::lay(&mut want, &again, tlvs);
-    let one = rewrite(&frame, &mut target);
+    let one = framing::rewrite(&frame, &mut target);
     let once = target;
-    let two = rewrite(&once, &mut target);
+    let two = framing::rewrite(&once, &mut target);
     (one == 0) & (two == 0) & same::holds(&once, &want, 0) & same::holds(&target, &want, 0)
 }
 
