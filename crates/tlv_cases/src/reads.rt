@@ -1,6 +1,8 @@
 // Whether what stands at a place is as wanted.
 use tlv::TlvCursor;
 use tlv::TlvRead;
+use vectors::frames::F;
+use vectors::framing;
 
 // An entry with this type and this place and length of its value: the place after it is where the value ends.
 pub fn is_entry(r: TlvRead, number: u16, at: usize, size: usize) -> bool {
@@ -11,12 +13,8 @@ pub fn is_entry(r: TlvRead, number: u16, at: usize, size: usize) -> bool {
             len,
             next,
         } => {
-            let end = next.at;
-            (tlv_type == number)
-                & (start == at)
-                & (len == size)
-                & (start <= end)
-                & (start % 65536 + len % 65536 == end)
+            let end = at % 65536 + size % 65536;
+            (tlv_type == number) & (start == at) & (len == size) & (next.at == end)
         }
         TlvRead::End => false,
         TlvRead::Refused(_) => false,
@@ -59,8 +57,8 @@ pub fn single(s: &[u8], at: usize) -> TlvRead {
 pub fn list_answer(s: &[u8], number: u8) -> bool {
     let mut frame = [0xEEu8; 128];
     let end = 64 + s.len() % 64;
-    vectors::framing::lay(&mut frame, &vectors::frames::F, s);
+    framing::lay(&mut frame, &F, s);
     (tlv::check(s) == number)
-        & vectors::framing::f_answers(&frame, number, end)
-        & vectors::framing::f_answers(vectors::framing::first(&frame, end), number, end)
+        & framing::f_answers(&frame, number, end)
+        & framing::f_answers(framing::first(&frame, end), number, end)
 }

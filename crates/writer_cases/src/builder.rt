@@ -4,7 +4,7 @@ use tlv::TlvSetBuilder;
 use vectors::framing;
 use vectors::same;
 
-// Two values.
+// Values.
 const FOUR: [u8; 4] = *b"\xAA\xBB\xCC\xDD";
 
 const TWO: [u8; 2] = *b"\x01\x02";

@@ -30,7 +30,7 @@ fn right(group: Group, n: u64) -> bool {
     match group {
         Group::Unfit => writing::unfit(n),
         Group::Fit => writing::fit(n),
-        Group::Room => writing::short(n),
+        Group::Room => writing::room(n),
         Group::EmptyLast => writing::empty_last(n),
         Group::Large => large::written(n),
         Group::Empty => large::empty(n),

@@ -7,9 +7,10 @@ use vectors::frames::F;
 use vectors::framing;
 use vectors::same;
 
-// A TLV, and one after an empty one.
+// A TLV.
 const ENTRY: [u8; 6] = *b"\x00\x08\x00\x02\x01\x02";
 
+// An empty TLV before it.
 const AFTER_EMPTY: [u8; 10] = *b"\x00\x08\x00\x00\x00\x08\x00\x02\x01\x02";
 
 // The message F(1) with the sdo, the versions and the seconds as told.
@@ -38,7 +39,7 @@ fn refused(a: AnnounceMessage, tlvs: &[u8], room: usize, number: u8) -> bool {
     (answer == number) & same::holds_over(&target, b"")
 }
 
-// Whether a message is taken in a room, and its bytes are these 64, but for byte 46, and the TLVs.
+// Whether a message is taken in a room, and its bytes are these 64, but for byte 46, and the TLVs; every other byte is left.
 fn taken(a: AnnounceMessage, tlvs: &[u8], room: usize, head: [u8; 64]) -> bool {
     let mut target = [0u8; 96];
     let mut want = [0u8; 96];
@@ -123,6 +124,7 @@ fn with(tlvs: &[u8]) -> bool {
     taken(frames::f_message(), tlvs, 96, F)
 }
 
+// What is nearest to what will not fit, and TLVs of any type, also empty.
 pub fn fit(n: u64) -> bool {
     match n {
         0 => limit(message(0xFFF, 2, 0, 0), 0, 6, 0xFB02_0000_00FF),
@@ -143,19 +145,19 @@ pub fn fit(n: u64) -> bool {
 }
 
 // F(1) with a TLV, and without, in each room from 0 to 96 bytes.
-pub fn short(n: u64) -> bool {
-    let room = (n % 97) as usize;
+pub fn room(n: u64) -> bool {
+    let size = (n % 97) as usize;
     let f = frames::f_message();
     if n < 97 {
-        if n < 70 {
-            return refused(f, &ENTRY, room, 1);
+        if size < 70 {
+            return refused(f, &ENTRY, size, 1);
         }
-        return taken(f, &ENTRY, room, F);
+        return taken(f, &ENTRY, size, F);
     }
-    if room < 64 {
-        return refused(f, b"", room, 1);
+    if size < 64 {
+        return refused(f, b"", size, 1);
     }
-    taken(f, b"", room, F)
+    taken(f, b"", size, F)
 }
 
 // Whether a message with these TLVs is written as these 64 bytes and the TLVs, and what was written is answered so by the
