@@ -1,5 +1,6 @@
-// Runs the reader of frames over cases whose answers paper 01 gives, and writes for each group how many cases it has and how many
+// Runs the reader of frames, and the writer on what was read, over cases whose answers paper 01 gives, and writes for each group how many cases it has and how many
 // are wrong.
+mod again;
 mod large;
 mod lengths;
 mod order;
@@ -18,6 +19,8 @@ enum Group {
     Many,
     Real,
     Cut,
+    Ignored,
+    Again,
 }
 
 // Whether the case of a number is right.
@@ -33,6 +36,8 @@ fn right(group: Group, n: u64) -> bool {
         Group::Many => large::many(n),
         Group::Real => real::frame(n),
         Group::Cut => real::damaged(n),
+        Group::Ignored => again::ignored(n),
+        Group::Again => again::again(n),
     }
 }
 
@@ -63,6 +68,8 @@ fn whole_frames() {
     run(b"10,912 entries", Group::Many, 10);
     run(b"real announce frames", Group::Real, 5);
     run(b"real announce frames, cut", Group::Cut, 380);
+    run(b"bits that are ignored", Group::Ignored, 256);
+    run(b"read, and written again twice", Group::Again, 6);
 }
 
 fn main() {

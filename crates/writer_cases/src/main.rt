@@ -2,7 +2,6 @@
 // cases it has and how many are wrong.
 mod builder;
 mod large;
-mod round;
 mod writing;
 
 use vectors::tally::Tally;
@@ -15,8 +14,6 @@ enum Group {
     Large,
     Empty,
     WrittenRead,
-    Ignored,
-    Again,
     Entry,
     EntryType,
     Used,
@@ -34,9 +31,7 @@ fn right(group: Group, n: u64) -> bool {
         Group::EmptyLast => writing::empty_last(n),
         Group::Large => large::written(n),
         Group::Empty => large::empty(n),
-        Group::WrittenRead => round::written_read(n),
-        Group::Ignored => round::ignored(n),
-        Group::Again => round::again(n),
+        Group::WrittenRead => writing::written_read(n),
         Group::Entry => builder::entry(n),
         Group::EntryType => builder::entry_type(n),
         Group::Used => builder::used(n),
@@ -60,14 +55,9 @@ fn frames_written() {
     run(b"the nearest that fits", Group::Fit, 14);
     run(b"rooms of 0 to 96", Group::Room, 194);
     run(b"an empty last entry", Group::EmptyLast, 6);
+    run(b"written, then read", Group::WrittenRead, 12);
     run(b"longest messages", Group::Large, 12);
     run(b"longest lists of empty entries", Group::Empty, 4);
-}
-
-fn frames_again() {
-    run(b"written, then read", Group::WrittenRead, 12);
-    run(b"bits that are ignored", Group::Ignored, 256);
-    run(b"read, and written again twice", Group::Again, 6);
 }
 
 fn entries_built() {
@@ -81,6 +71,5 @@ fn entries_built() {
 
 fn main() {
     frames_written();
-    frames_again();
     entries_built();
 }

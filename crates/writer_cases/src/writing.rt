@@ -1,4 +1,4 @@
-// Cases of the writer of frames: what it refuses, and the bytes that it leaves.
+// Cases of the writer of frames: what it refuses, the bytes that it leaves, and what it wrote, read.
 use announce::AnnounceMessage;
 use announce::WireTimestamp;
 use header::PtpVersion;
@@ -6,6 +6,8 @@ use vectors::frames;
 use vectors::frames::F;
 use vectors::framing;
 use vectors::same;
+use vectors::up;
+use vectors::up::UP_AGAIN;
 
 // A TLV.
 const ENTRY: [u8; 6] = *b"\x00\x08\x00\x02\x01\x02";
@@ -162,7 +164,7 @@ pub fn room(n: u64) -> bool {
 
 // Whether a message with these TLVs is written as these 64 bytes and the TLVs, and what was written is answered so by the
 // reader: alone, and with bytes after it.
-pub fn read_back(a: AnnounceMessage, head: [u8; 64], tlvs: &[u8], answer: u8) -> bool {
+fn read_back(a: AnnounceMessage, head: [u8; 64], tlvs: &[u8], answer: u8) -> bool {
     let mut target = [0u8; 96];
     same::fill(&mut target);
     let got = framing::write(a, tlvs, &mut target, 96);
@@ -186,5 +188,30 @@ pub fn empty_last(n: u64) -> bool {
         3 => f_back(&AFTER_EMPTY, 0),
         4 => f_back(&ENTRY, 0),
         _ => f_back(b"", 0),
+    }
+}
+
+// F(1), or the message whose bytes differ, with these TLVs: written and read.
+fn back(n: u64, tlvs: &[u8]) -> bool {
+    if n % 2 == 0 {
+        return read_back(frames::f_message(), F, tlvs, 0);
+    }
+    read_back(up::up_content(), UP_AGAIN, tlvs, 0)
+}
+
+pub fn written_read(n: u64) -> bool {
+    match n / 2 {
+        0 => back(n, b""),
+        1 => back(n, b"\x00\x08\x00\x02\x01\x02"),
+        2 => back(n, b"\x00\x08\x00\x00\x00\x08\x00\x02\x01\x02"),
+        3 => back(
+            n,
+            b"\x40\x00\x00\x04\xAA\xBB\xCC\xDD\xFF\xFF\x00\x02\x00\x00",
+        ),
+        4 => back(n, b"\x00\x08\x00\x08\x00\x08\x00\x01\x00\x08\x00\x01"),
+        _ => back(
+            n,
+            b"\x00\x00\x00\x00\x80\x09\x00\x02\x11\x22\x7F\xFF\x00\x02\x33\x44",
+        ),
     }
 }

@@ -1,37 +1,9 @@
-// Cases of messages that are written and read, and of frames that are read and written again.
-use crate::writing;
-use vectors::frames;
+// Cases of frames that are read and written again.
 use vectors::frames::F;
 use vectors::framing;
 use vectors::same;
-use vectors::up;
 use vectors::up::UP;
 use vectors::up::UP_AGAIN;
-
-// F(1), or the message whose bytes differ, with these TLVs: written and read.
-fn back(n: u64, tlvs: &[u8]) -> bool {
-    if n % 2 == 0 {
-        return writing::read_back(frames::f_message(), F, tlvs, 0);
-    }
-    writing::read_back(up::up_content(), UP_AGAIN, tlvs, 0)
-}
-
-pub fn written_read(n: u64) -> bool {
-    match n / 2 {
-        0 => back(n, b""),
-        1 => back(n, b"\x00\x08\x00\x02\x01\x02"),
-        2 => back(n, b"\x00\x08\x00\x00\x00\x08\x00\x02\x01\x02"),
-        3 => back(
-            n,
-            b"\x40\x00\x00\x04\xAA\xBB\xCC\xDD\xFF\xFF\x00\x02\x00\x00",
-        ),
-        4 => back(n, b"\x00\x08\x00\x08\x00\x08\x00\x01\x00\x08\x00\x01"),
-        _ => back(
-            n,
-            b"\x00\x00\x00\x00\x80\x09\x00\x02\x11\x22\x7F\xFF\x00\x02\x33\x44",
-        ),
-    }
-}
 
 // Whether a frame of these 64 bytes and TLVs, written again over bytes of 55, gives those 64 bytes and the TLVs, and does so a
 // second time.
