@@ -1,5 +1,5 @@
-// Runs the reader of frames, and the writer on what was read, over cases whose answers paper 01 gives, and writes for each group how many cases it has and how many
-// are wrong.
+// Runs the reader of frames, and the writer on what was read, over cases whose answers paper 01 gives, and writes for each group
+// how many cases it has and how many are wrong.
 mod again;
 mod large;
 mod lengths;

@@ -55,6 +55,9 @@ fn frames_written() {
     run(b"the nearest that fits", Group::Fit, 14);
     run(b"rooms of 0 to 96", Group::Room, 194);
     run(b"an empty last entry", Group::EmptyLast, 6);
+}
+
+fn whole_messages() {
     run(b"written, then read", Group::WrittenRead, 12);
     run(b"longest messages", Group::Large, 12);
     run(b"longest lists of empty entries", Group::Empty, 4);
@@ -71,5 +74,6 @@ fn entries_built() {
 
 fn main() {
     frames_written();
+    whole_messages();
     entries_built();
 }
