@@ -1,6 +1,6 @@
 // Announce frames that ptp4l of linuxptp 3.1.1 sent, with path_trace_enabled 1, free_running 1, logAnnounceInterval 0 and
 // software time stamps: a grandmaster (priority1 100, clockClass 6, clockAccuracy 0x20, offsetScaledLogVariance 0x4E5D,
-// timeSource 0x20) and a boundary clock behind it. They were recorded at the next interface.
+// timeSource 0x20) and a boundary clock behind it, over Ethernet but for one. They were recorded at the other end of the link.
 use announce::AnnounceMessage;
 use announce::ClockQuality;
 use header::Header;
@@ -10,7 +10,7 @@ use vectors::frames;
 use vectors::framing;
 use vectors::same;
 
-// The grandmaster over Ethernet, its time traceable and its UTC offset valid.
+// The grandmaster, after pmc had set its time and frequency traceable, its timescale PTP and its UTC offset of 37 valid.
 const GRANDMASTER: [u8; 76] = *b"\
     \x0B\x02\x00\x4C\x00\x00\x00\x3C\
     \x00\x00\x00\x00\x00\x00\x00\x00\
