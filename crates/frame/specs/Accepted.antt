@@ -8,6 +8,7 @@ use native.Mathlib.Omega.{arith}
 use lib.ListN.{length, take, drop}
 use Rattle.wire.specs.Be.{Bytes, beAt, put}
 use Rattle.wire.specs.BeLaws.{bytes-part, length-put, part-put-before}
+use Rattle.wire.specs.Refusal.{onZero}
 use Rattle.header.specs.declared.MessageType.the-variants.{Announce}
 use Rattle.header.specs.declared.TypeRead.the-variants.{Known}
 use Rattle.header.specs.Types.{typeOf}
@@ -19,8 +20,8 @@ use Rattle.tlv.specs.Tlv.{Tlv, checkList}
 use Rattle.tlv.specs.Builder.{listBytes}
 use Rattle.tlv.specs.Entries.{AllEven, LastFull, taken, taken-back}
 use Rattle.frame.specs.declared.Message.{Message}
-use Rattle.frame.specs.declared.FrameRead.the-variants.{Done}
-use Rattle.frame.specs.Frame.{sizeAt, tlvsAt, frameRefusal, messageAt, readFrame, onZero}
+use Rattle.frame.specs.declared.FrameRead.the-variants.{Done, Refused}
+use Rattle.frame.specs.Frame.{sizeAt, tlvsAt, frameRefusal, messageAt, readFrame}
 use Rattle.frame.specs.Laws.{frame-passed, frame-passes, read-done}
 
 pub record Accepted (s : List ℕ) : Type 0 where
@@ -41,7 +42,7 @@ accepts s a =
     })))
 
 -- an answer that is no refusal had no refusal
-done-none : (n : ℕ) (x m : Message) → onZero n x ≡ Done m → (n ≡ 0) × (m ≡ x)
+done-none : (n : ℕ) (x m : Message) → onZero n (Done x) Refused ≡ Done m → (n ≡ 0) × (m ≡ x)
 done-none zero x m e = (refl, let same : m ≡ x = cc in same)
 done-none (suc n) x m e = absurd (let z : _≡_ {A = ℕ} 0 1 = cc in omega arith)
 

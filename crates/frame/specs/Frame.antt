@@ -1,12 +1,13 @@
 -- A frame, checked in the order of paper 01, and a frame as it is written.
 -- Assumes nothing.
-use Prim.Native.Nat.{ℕ, zero, suc, _+_, _-_, _%_}
+use Prim.Native.Nat.{ℕ, _+_, _-_, _%_}
 use mathlib.Core.List.{List}
 use mathlib.Core.Bool.{Bool, false, cond}
 use mathlib.Core.Option.{Option, none, some}
 use lib.ListN.{length, take, drop}
 use lib.Dec.{eqb, leb}
 use Rattle.wire.specs.Be.{beAt, put}
+use Rattle.wire.specs.Refusal.{onZero}
 use Rattle.wire.specs.Write.{writeNumber, writeBuffer}
 use Rattle.header.specs.declared.TypeRead.{TypeRead}
 use Rattle.header.specs.declared.TypeRead.the-variants.{Known, Reserved}
@@ -38,24 +39,16 @@ refusalOfType (Known t) size given =
 unfoldable pub refusalOf : ℕ → ℕ → ℕ → ℕ
 refusalOf number size given = refusalOfType (typeOf number) size given
 
-abbrev pub orElse : ℕ → ℕ → ℕ
-orElse zero m = m
-orElse (suc n) m = suc n
-
 -- fewer than 34 bytes: 1; then those; then the TLVs'
 unfoldable pub frameRefusal : List ℕ → ℕ
-frameRefusal s = cond (leb 34 (length s)) (orElse (refusalOf (beAt s 0 1 % 16) (sizeAt s) (length s)) (checkList (tlvsAt s))) 1
+frameRefusal s = cond (leb 34 (length s)) (onZero (refusalOf (beAt s 0 1 % 16) (sizeAt s) (length s)) (checkList (tlvsAt s)) (λ n. n)) 1
 
 -- the announce with its header, and where its TLVs begin and end
 abbrev pub messageAt : List ℕ → Message
 messageAt s = record { announce = announce.contentAt (header.headerAt s) s 34; «tlv_start» = 64; «tlv_end» = sizeAt s }
 
-abbrev pub onZero : ℕ → Message → FrameRead
-onZero zero m = Done m
-onZero (suc n) m = Refused (suc n)
-
 unfoldable pub readFrame : List ℕ → FrameRead
-readFrame s = onZero (frameRefusal s) (messageAt s)
+readFrame s = onZero (frameRefusal s) (Done (messageAt s)) Refused
 
 -- in the paper's numbers: 0 with the message, or the number alone
 abbrev pub answerOf : FrameRead → ℕ × Option Message

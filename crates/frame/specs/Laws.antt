@@ -10,6 +10,7 @@ use borrow.Author.Tests.{le-leb, lt-leb, eq-eqb, ne-eqb, leb-true, eqb-true}
 use lib.Dec.{eqb, leb}
 use lib.ListN.{length}
 use Rattle.wire.specs.Be.{beAt}
+use Rattle.wire.specs.Refusal.{onZero, on-done, on-refused, on-both}
 use Rattle.header.specs.declared.MessageType.{MessageType}
 use Rattle.header.specs.declared.MessageType.the-variants.{Announce}
 use Rattle.header.specs.declared.TypeRead.{TypeRead}
@@ -21,7 +22,7 @@ use Rattle.announce.specs.declared.AnnounceMessage.{AnnounceMessage}
 use Rattle.announce.specs.Wire as announce
 use Rattle.tlv.specs.Tlv.{checkList, wholeEntries}
 use Rattle.frame.specs.declared.FrameRead.the-variants.{Done, Refused}
-use Rattle.frame.specs.Frame.{sizeAt, tlvsAt, refusalOfType, refusalOf, orElse, frameRefusal, messageAt, onZero, readFrame, answerOf, fitsOf}
+use Rattle.frame.specs.Frame.{sizeAt, tlvsAt, refusalOfType, refusalOf, frameRefusal, messageAt, readFrame, answerOf, fitsOf}
 
 -- ---- the checks on numbers
 
@@ -91,12 +92,11 @@ module _ (s : List ℕ) where
 
   pub frame-front : (n : ℕ) → 34 ≤ length s → front ≡ n → (n ≡ 0 → ⊥) → n ≡ frameRefusal s
   unfolding frameRefusal
-  frame-front zero h e k = absurd (k refl)
-  frame-front (suc n) h e k = rw (le-leb 34 (length s) h, e)
+  frame-front n h e k = rw (le-leb 34 (length s) h, e) (sym (on-refused n (checkList (tlvsAt s)) (λ n. n) k))
 
   pub frame-tlvs : 34 ≤ length s → front ≡ 0 → checkList (tlvsAt s) ≡ frameRefusal s
   unfolding frameRefusal
-  frame-tlvs h e = rw (le-leb 34 (length s) h, e)
+  frame-tlvs h e = rw (le-leb 34 (length s) h) (sym (on-done front (checkList (tlvsAt s)) (λ n. n) e))
 
   -- what passes
   pub record FramePassed : Type 0 where
@@ -107,7 +107,7 @@ module _ (s : List ℕ) where
   unfolding frameRefusal
   frame-passed e = by (leb 34 (length s)) front refl e
     where
-      by : (b : Bool) (n : ℕ) → refusalOf (beAt s 0 1 % 16) (sizeAt s) (length s) ≡ n → cond b (orElse n (checkList (tlvsAt s))) 1 ≡ 0 → FramePassed
+      by : (b : Bool) (n : ℕ) → refusalOf (beAt s 0 1 % 16) (sizeAt s) (length s) ≡ n → cond b (onZero n (checkList (tlvsAt s)) (λ n. n)) 1 ≡ 0 → FramePassed
       by true zero q e = record { front = passed-back (beAt s 0 1 % 16) (sizeAt s) (length s) q; tlvs = e }
       by true (suc n) q e = absurd (omega arith)
       by false n q e = absurd (omega arith)
@@ -122,21 +122,16 @@ module _ (s : List ℕ) where
 
   pub read-refused : (n : ℕ) → frameRefusal s ≡ n → (n ≡ 0 → ⊥) → Refused n ≡ readFrame s
   unfolding readFrame
-  read-refused zero e h = absurd (h refl)
-  read-refused (suc n) e h = rw e
+  read-refused n e h = rw e (sym (on-refused n (Done (messageAt s)) Refused h))
 
   pub read-done : frameRefusal s ≡ 0 → Done (messageAt s) ≡ readFrame s
   unfolding readFrame
-  read-done e = rw e
+  read-done e = sym (on-done (frameRefusal s) (Done (messageAt s)) Refused e)
 
--- in the paper's numbers: 0 with the message, or the refusal's number alone
-pub frame-answer : (s : List ℕ) → answerOf (readFrame s) ≡ (frameRefusal s, cond (eqb (frameRefusal s) 0) (some (messageAt s)) none)
-unfolding readFrame
-frame-answer s = by (frameRefusal s)
-  where
-    by : (n : ℕ) → answerOf (onZero n (messageAt s)) ≡ (n, cond (eqb n 0) (some (messageAt s)) none)
-    by zero = refl
-    by (suc n) = rw (ne-eqb (suc n) 0 (λ e. omega (arith, e)))
+  -- in the paper's numbers: 0 with the message, or the refusal's number alone
+  pub frame-answer : answerOf (readFrame s) ≡ onZero (frameRefusal s) (0, some (messageAt s)) (λ n. (n, none))
+  unfolding readFrame
+  frame-answer = on-both answerOf (frameRefusal s) (Done (messageAt s)) Refused
 
 -- ---- what fits the wire
 

@@ -1,12 +1,13 @@
 -- The bytes of an entry, and what a builder answers and writes.
 -- Assumes nothing.
-use Prim.Native.Nat.{ℕ, zero, suc, _+_, _%_}
+use Prim.Native.Nat.{ℕ, _+_, _%_}
 use mathlib.Core.List.{List, [], _∷_, _++_}
 use mathlib.Core.Bool.{Bool, false, cond}
 use mathlib.Core.Option.{Option, none, some}
 use lib.ListN.{length}
 use lib.Dec.{leb, eqb}
 use Rattle.wire.specs.Be.{bytesOf, put}
+use Rattle.wire.specs.Refusal.{onZero}
 use Rattle.wire.specs.Write.{writeNumber, writeBuffer}
 use Rattle.tlv.specs.Tlv.{Tlv}
 use Rattle.tlv.specs.declared.Added.{Added}
@@ -40,12 +41,8 @@ abbrev pub addExit : List ℕ → ℕ → ℕ → List ℕ → List ℕ
 addExit s used t v = writeBuffer (entryFits (length v)) (used + (length v + 4)) s (put s used (entryBytes t v))
 
 -- the builder afterwards, or the refusal
-abbrev pub added : ℕ → ℕ → Added
-added zero used = Done (record { used = used })
-added (suc n) used = Refused (suc n)
-
 unfoldable pub addRead : List ℕ → ℕ → List ℕ → Added
-addRead s used v = added (addAnswer s used v) (used + (length v + 4))
+addRead s used v = onZero (addAnswer s used v) (Done (record { used = used + (length v + 4) })) Refused
 
 -- in the paper's numbers: 0 with the bytes used afterwards, or the refusal's number alone
 abbrev pub answerOf : Added → ℕ × Option ℕ

@@ -9,16 +9,18 @@ use native.Mathlib.Nat.{add-zero}
 use native.Mathlib.Omega.{arith}
 use lib.ListN.{length, take, drop, length-append, length-drop}
 use lib.Seq.{length-take-le, take-at}
-use lib.Dec.{leb, eqb}
+use lib.Dec.{leb}
 use borrow.Rule.Slice.PartMut.{putMid, midOf, put-same}
 use borrow.Author.Tests.{le-leb, lt-leb, eq-eqb, ne-eqb, leb-true, leb-false}
 use Rattle.wire.specs.Be.{bytesOf, put}
 use Rattle.wire.specs.BeLaws.{length-bytesOf, put-put, put-part}
+use Rattle.wire.specs.Refusal.{onZero, on-done, on-refused, on-both}
 use Rattle.wire.specs.Write.{writeNumber, done, kept}
 use Rattle.tlv.specs.declared.TlvSetBuilder.{TlvSetBuilder}
+use Rattle.tlv.specs.declared.Added.{Added}
 use Rattle.tlv.specs.declared.Added.the-variants.{Done, Refused}
 use Rattle.tlv.specs.Tlv.{Tlv}
-use Rattle.tlv.specs.Builder.{entryBytes, entryFits, entryAnswer, entryExit, addAnswer, addExit, added, addRead, answerOf, listBytes}
+use Rattle.tlv.specs.Builder.{entryBytes, entryFits, entryAnswer, entryExit, addAnswer, addExit, addRead, answerOf, listBytes}
 
 -- ---- what fits
 
@@ -87,35 +89,33 @@ module _ (b v : List ℕ) (t used r : ℕ) (le : r ≤ length b) (same : length 
       (put-same r (length b - r) b)
 
 -- what the builder answers, by its number
-pub read-done : (b v : List ℕ) (used : ℕ) → addAnswer b used v ≡ 0 → Done (record { used = used + (length v + 4) }) ≡ addRead b used v
-unfolding addRead
-read-done b v used e = rw e
+module _ (b v : List ℕ) (used : ℕ) where
+  abbrev after : Added
+  after = Done (record { used = used + (length v + 4) })
 
-pub read-refused : (b v : List ℕ) (used n : ℕ) → addAnswer b used v ≡ n → (n ≡ 0 → ⊥) → Refused n ≡ addRead b used v
-unfolding addRead
-read-refused b v used zero e h = absurd (h refl)
-read-refused b v used (suc n) e h = rw e
+  pub read-done : addAnswer b used v ≡ 0 → after ≡ addRead b used v
+  unfolding addRead
+  read-done e = sym (on-done (addAnswer b used v) after Refused e)
 
--- a builder that took an entry is within the buffer
-pub added-within : (s v : List ℕ) (used : ℕ) (after : TlvSetBuilder) → addRead s used v ≡ Done after → after .used ≤ length s
-unfolding addRead
-added-within s v used after e = by (addAnswer s used v) refl e
-  where
-    by : (n : ℕ) → addAnswer s used v ≡ n → added n (used + (length v + 4)) ≡ Done after → after .used ≤ length s
-    by zero z e =
-        let same : (record { used = used + (length v + 4) }) ≡ after = cc in
-        omega (arith, ap (λ (x : TlvSetBuilder). x .used) same, done _ _ s s z .room)
-    by (suc n) z e = absurd (let f : _≡_ {A = ℕ} 0 1 = cc in omega arith)
+  pub read-refused : (n : ℕ) → addAnswer b used v ≡ n → (n ≡ 0 → ⊥) → Refused n ≡ addRead b used v
+  unfolding addRead
+  read-refused n e h = rw e (sym (on-refused n after Refused h))
 
--- in the paper's numbers
-pub add-answer : (b v : List ℕ) (used : ℕ)
-    → answerOf (addRead b used v) ≡ (addAnswer b used v, cond (eqb (addAnswer b used v) 0) (some (used + (length v + 4))) none)
-unfolding addRead
-add-answer b v used = by (addAnswer b used v)
-  where
-    by : (n : ℕ) → answerOf (added n (used + (length v + 4))) ≡ (n, cond (eqb n 0) (some (used + (length v + 4))) none)
-    by zero = refl
-    by (suc n) = rw (ne-eqb (suc n) 0 (λ e. omega (arith, e)))
+  -- a builder that took an entry is within the buffer
+  pub added-within : (then : TlvSetBuilder) → addRead b used v ≡ Done then → then .used ≤ length b
+  unfolding addRead
+  added-within then e = by (addAnswer b used v) refl e
+    where
+      by : (n : ℕ) → addAnswer b used v ≡ n → onZero n after Refused ≡ Done then → then .used ≤ length b
+      by zero z e =
+          let same : (record { used = used + (length v + 4) }) ≡ then = cc in
+          omega (arith, ap (λ (x : TlvSetBuilder). x .used) same, done _ _ b b z .room)
+      by (suc n) z e = absurd (let f : _≡_ {A = ℕ} 0 1 = cc in omega arith)
+
+  -- in the paper's numbers
+  pub add-answer : answerOf (addRead b used v) ≡ onZero (addAnswer b used v) (0, some (used + (length v + 4))) (λ n. (n, none))
+  unfolding addRead
+  add-answer = on-both answerOf (addAnswer b used v) after Refused
 
 -- ---- a list that grows
 

@@ -11,6 +11,7 @@ use lib.ListN.{length, take, drop, length-drop}
 use lib.Dec.{leb, eqb}
 use borrow.Author.Tests.{le-leb, lt-leb, eq-eqb, ne-eqb, leb-true, leb-false, eqb-true}
 use Rattle.wire.specs.Be.{beAt}
+use Rattle.wire.specs.Refusal.{on-done, on-refused}
 use Rattle.tlv.specs.declared.TlvCursor.{TlvCursor}
 use Rattle.tlv.specs.declared.TlvRead.{TlvRead}
 use Rattle.tlv.specs.declared.TlvRead.the-variants.{Entry, End, Refused}
@@ -167,9 +168,8 @@ unrolled least l =
 module _ (s : List ℕ) (at : ℕ) where
   pub list-refused : (n : ℕ) → checkList s ≡ n → (n ≡ 0 → ⊥) → Refused n ≡ listRead s at
   unfolding listRead
-  list-refused zero e h = absurd (h refl)
-  list-refused (suc n) e h = rw e
+  list-refused n e h = rw e (sym (on-refused n (readAt s at) Refused h))
 
   pub list-taken : checkList s ≡ 0 → readAt s at ≡ listRead s at
   unfolding listRead
-  list-taken e = rw e
+  list-taken e = sym (on-done (checkList s) (readAt s at) Refused e)

@@ -7,6 +7,7 @@ use mathlib.Core.Option.{Option, none, some}
 use lib.ListN.{length, take, drop}
 use lib.Dec.{leb, eqb}
 use Rattle.wire.specs.Be.{beAt}
+use Rattle.wire.specs.Refusal.{onZero}
 use Rattle.tlv.specs.declared.TlvRead.{TlvRead}
 use Rattle.tlv.specs.declared.TlvRead.the-variants.{Entry, End, Refused}
 
@@ -55,12 +56,8 @@ wholeEntries s = eqb (listCheck 4 s) 0
 
 -- ---- one entry of a list that is checked first
 
-abbrev pub onChecked : ℕ → TlvRead → TlvRead
-onChecked zero r = r
-onChecked (suc n) r = Refused (suc n)
-
 unfoldable pub listRead : List ℕ → ℕ → TlvRead
-listRead s at = onChecked (checkList s) (readAt s at)
+listRead s at = onZero (checkList s) (readAt s at) Refused
 
 -- ---- in the paper's numbers
 

@@ -1,7 +1,7 @@
 -- The rule of every writer: 15 where the wire cannot hold what is given, then 1 where the buffer is short, before the first byte; a refusal
 -- writes nothing.
 -- Assumes nothing.
-use Prim.Native.Nat.{ℕ, zero, suc, _≤_, _<_}
+use Prim.Native.Nat.{ℕ, _≤_, _<_}
 use mathlib.Core.Path.{_≡_, refl, sym}
 use mathlib.Core.Bool.{Bool, true, false, cond}
 use mathlib.Core.List.{List}
@@ -9,18 +9,15 @@ use native.Mathlib.Omega.{arith}
 use borrow.Author.Tests.{leb-true, le-leb, lt-leb}
 use lib.Dec.{leb}
 use lib.ListN.{length}
+use Rattle.wire.specs.Refusal.{onZero, on-refused}
 
 -- the answer to what fits or not and takes `size` bytes: its number, 0 for done
 unfoldable pub writeNumber : (fits : Bool) (size : ℕ) → List ℕ → ℕ
 writeNumber fits size s = cond fits (cond (leb size (length s)) 0 1) 15
 
-abbrev pub onZero : ℕ → List ℕ → List ℕ → List ℕ
-onZero zero out s = out
-onZero (suc n) out s = s
-
 -- the buffer s afterwards, where `out` is what writing makes of it
 unfoldable pub writeBuffer : (fits : Bool) (size : ℕ) → List ℕ → List ℕ → List ℕ
-writeBuffer fits size s out = onZero (writeNumber fits size s) out s
+writeBuffer fits size s out = onZero (writeNumber fits size s) out (λ n. s)
 
 -- ---- the three ways of a write
 
@@ -64,8 +61,4 @@ done fits size s out e =
 
 pub kept : (fits : Bool) (size : ℕ) (s out : List ℕ) → (writeNumber fits size s ≡ 0 → ⊥) → writeBuffer fits size s out ≡ s
 unfolding writeBuffer
-kept fits size s out n = by (writeNumber fits size s) n
-  where
-    by : (k : ℕ) → (k ≡ 0 → ⊥) → onZero k out s ≡ s
-    by zero h = absurd (h refl)
-    by (suc k) h = refl
+kept fits size s out n = on-refused (writeNumber fits size s) out (λ n. s) n
