@@ -2,7 +2,7 @@
 -- entries of which the last is not empty.
 -- Assumes nothing.
 use Prim.Native.Nat.{ℕ, zero, suc, _+_, _-_, _%_, _≤_}
-use mathlib.Core.Path.{_≡_, refl, sym, ap, _∙_, subst}
+use mathlib.Core.Path.{_≡_, refl, sym, ap, _∙_}
 use mathlib.Core.List.{List}
 use native.Mathlib.Omega.{arith}
 use lib.ListN.{length, take, drop}
@@ -16,9 +16,8 @@ use Rattle.header.specs.Wire.{headerAt}
 use Rattle.header.specs.RoundTrip.{Wired, header-kept}
 use Rattle.announce.specs.Wire.{contentAt}
 use Rattle.announce.specs.RoundTrip.{content-kept}
-use Rattle.tlv.specs.Tlv.{Tlv, checkList}
-use Rattle.tlv.specs.Builder.{listBytes}
-use Rattle.tlv.specs.Entries.{AllEven, LastFull, taken, taken-back}
+use Rattle.tlv.specs.Tlv.{checkList}
+use Rattle.tlv.specs.Entries.{Taken, taken, taken-back}
 use Rattle.frame.specs.declared.Message.{Message}
 use Rattle.frame.specs.declared.FrameRead.the-variants.{Done, Refused}
 use Rattle.frame.specs.Frame.{sizeAt, tlvsAt, frameRefusal, messageAt, readFrame}
@@ -28,18 +27,12 @@ pub record Accepted (s : List ℕ) : Type 0 where
   pub type : typeOf (beAt s 0 1 % 16) ≡ Known Announce
   pub long : 64 ≤ sizeAt s
   pub there : sizeAt s ≤ length s
-  pub entries : List Tlv
-  pub tlvs : listBytes entries ≡ tlvsAt s
-  pub even : AllEven entries
-  pub full : LastFull entries
+  pub tlvs : Taken (tlvsAt s)
 
 -- such a frame is read
 pub accepts : (s : List ℕ) → Accepted s → readFrame s ≡ Done (messageAt s)
 accepts s a =
-    sym (read-done s (frame-passes s (record {
-      front = record { type = a .type; long = a .long; there = a .there };
-      tlvs = subst (λ (l : List ℕ). checkList l ≡ 0) (a .tlvs) (taken (a .entries) (a .even) (a .full));
-    })))
+    sym (read-done s (frame-passes s (record { front = record { type = a .type; long = a .long; there = a .there }; tlvs = taken (tlvsAt s) (a .tlvs) })))
 
 -- an answer that is no refusal had no refusal
 done-none : (n : ℕ) (x m : Message) → onZero n (Done x) Refused ≡ Done m → (n ≡ 0) × (m ≡ x)
@@ -51,16 +44,12 @@ pub accepted : (s : List ℕ) (m : Message) → Bytes s → readFrame s ≡ Done
 unfolding readFrame
 accepted s m b e =
     let d = done-none (frameRefusal s) (messageAt s) m e in
-    let p = frame-passed s (d .0) in
-    let t = taken-back (tlvsAt s) (bytes-part (sizeAt s - 64) 64 s b) (p .tlvs) in (
+    let p = frame-passed s (d .0) in (
       record {
         type = p .front .type;
         long = p .front .long;
         there = p .front .there;
-        entries = t .list;
-        tlvs = t .bytes;
-        even = t .even;
-        full = t .full;
+        tlvs = taken-back (tlvsAt s) (bytes-part (sizeAt s - 64) 64 s b) (p .tlvs);
       },
       d .1,
     )

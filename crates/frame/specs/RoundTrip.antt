@@ -22,9 +22,7 @@ use Rattle.announce.specs.declared.AnnounceMessage.{AnnounceMessage}
 use Rattle.announce.specs.Wire.{announceOf, announceWith, contentAt, contentWidths, contentBytes, reservedOf, withContent}
 use Rattle.announce.specs.Message.{withMessage, written, wired-back, content-back, content-again, reserved-there}
 use Rattle.announce.specs.RoundTrip as announce
-use Rattle.tlv.specs.Tlv.{Tlv, wholeEntries}
-use Rattle.tlv.specs.Builder.{listBytes}
-use Rattle.tlv.specs.Entries.{AllEven, LastFull, whole}
+use Rattle.tlv.specs.Entries.{Taken, whole}
 use Rattle.frame.specs.declared.Message.{Message}
 use Rattle.frame.specs.declared.FrameRead.the-variants.{Done}
 use Rattle.frame.specs.Frame.{sizeAt, tlvsAt, messageAt, readFrame, fitsOf, withFrame, writeAnswer, writeExit}
@@ -101,17 +99,14 @@ module _ (s : List ℕ) (b : Bytes s) (a : AnnounceMessage) (tlvs : List ℕ) (r
   pub out-message : messageAt out ≡ record { announce = a; «tlv_start» = 64; «tlv_end» = length tlvs + 64 }
   out-message = λ i. record { announce = content i; «tlv_start» = 64; «tlv_end» = out-size i }
 
-  -- entries of which the last is not empty are accepted
-  pub out-accepted : (es : List Tlv) → listBytes es ≡ tlvs → AllEven es → LastFull es → Accepted out
-  out-accepted es e v f =
+  -- with entries of which the last is not empty it is accepted
+  pub out-accepted : Taken tlvs → Accepted out
+  out-accepted t =
       record {
         type = out-type ∙ type-back Announce;
         long = omega (arith, out-size);
         there = omega (arith, out-size, out-length);
-        entries = es;
-        tlvs = e ∙ sym out-tlvs;
-        even = v;
-        full = f;
+        tlvs = subst Taken (sym out-tlvs) t;
       }
 
 -- a message that the wire can hold
@@ -124,19 +119,18 @@ whole-content : (a : AnnounceMessage) (tlvs : List ℕ) → announce.Typed a →
 whole-content a tlvs ty e = record { seconds = leb-true _ _ (fits-back a tlvs e .content); typed = ty }
 
 -- of the calls: where the writer answers 0, the reader gives back what was written, given that the last TLV is not empty
-pub frame-trip : (s : List ℕ) (a : AnnounceMessage) (es : List Tlv) → Bytes s → header.Typed (a .header) → announce.Typed a → AllEven es → LastFull es
-    → writeAnswer s a (listBytes es) ≡ 0
-    → (readFrame (writeExit s a (listBytes es)) ≡ Done (record { announce = a; «tlv_start» = 64; «tlv_end» = length (listBytes es) + 64 }))
-    × (tlvsAt (writeExit s a (listBytes es)) ≡ listBytes es)
-frame-trip s a es b th ta v f e =
-    let tlvs = listBytes es in
+pub frame-trip : (s : List ℕ) (a : AnnounceMessage) (tlvs : List ℕ) → Bytes s → header.Typed (a .header) → announce.Typed a → Taken tlvs
+    → writeAnswer s a tlvs ≡ 0
+    → (readFrame (writeExit s a tlvs) ≡ Done (record { announce = a; «tlv_start» = 64; «tlv_end» = length tlvs + 64 }))
+    × (tlvsAt (writeExit s a tlvs) ≡ tlvs)
+frame-trip s a tlvs b th ta t e =
     let d = done (fitsOf a tlvs) (length tlvs + 64) s (withFrame s a tlvs) e in
     let size = fits-size a tlvs (d .fit) in
     let wh = whole-header a tlvs th (d .fit) in
     let wa = whole-content a tlvs ta (d .fit) in
     let out = withFrame s a tlvs in
     rw (d .exit) (
-      accepts out (out-accepted s b a tlvs (d .room) size wh wa es refl v f) ∙ ap Done (out-message s b a tlvs (d .room) size wh wa),
+      accepts out (out-accepted s b a tlvs (d .room) size wh wa t) ∙ ap Done (out-message s b a tlvs (d .room) size wh wa),
       out-tlvs s b a tlvs (d .room) size wh wa,
     )
 
@@ -208,7 +202,7 @@ module _ (s target : List ℕ) (b : Bytes s) (bt : Bytes target) (acc : Accepted
       sym (fit-by-tlvs a tlvs
       (fitted _ _ _ (length tlvs + 30) (record { sdo-fits = w .sdo; major-fits = w .major; minor-fits = w .minor; content-fits = omega (arith, tlvs-length, beAt-bound s 2 2 b) }))
       (le-leb _ _ (announce.whole-read (headerAt s) s 34 b .seconds)))
-      ∙ subst (λ (l : List ℕ). wholeEntries l ≡ true) (acc .tlvs) (whole (acc .entries) (acc .even))
+      ∙ whole tlvs (acc .tlvs .entries)
 
   -- its bytes again: the ignored bits and bytes cleared, control 5, and a given byte 46
   bytes-again : (reserved : ℕ)
@@ -256,7 +250,7 @@ module _ (s target : List ℕ) (b : Bytes s) (bt : Bytes target) (acc : Accepted
   read-again : readFrame again ≡ Done (messageAt s)
   read-again =
       let size : length tlvs + 64 ≤ 65535 = omega (arith, tlvs-length, beAt-bound s 2 2 b) in
-      accepts again (out-accepted target bt a tlvs wide size wh wa (acc .entries) (acc .tlvs) (acc .even) (acc .full))
+      accepts again (out-accepted target bt a tlvs wide size wh wa (acc .tlvs))
       ∙ ap Done (out-message target bt a tlvs wide size wh wa)
       ∙ (λ i. Done (record { announce = a; «tlv_start» = 64; «tlv_end» = tlvs-length i }))
 

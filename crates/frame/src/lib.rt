@@ -25,6 +25,9 @@ pub enum FrameRead {
 // Where the TLVs of an announce begin.
 pub const TLV_START: usize = HEADER_SIZE + CONTENT_SIZE;
 
+// The number of an announce.
+const ANNOUNCE: u8 = 11;
+
 // The checks of a type, a length field and the number of bytes given; 0 where all pass.
 fn refusal_of(number: u8, size: usize, given: usize) -> u8
     ensures { λ r. ⌜ r ≡ refusalOf number size given ⌝ }
@@ -38,7 +41,7 @@ fn refusal_of(number: u8, size: usize, given: usize) -> u8
             if given < size {
                 return 1;
             }
-            if message_type.number() != 11 {
+            if message_type.number() != ANNOUNCE {
                 return 5;
             }
             if size < TLV_START {

@@ -146,12 +146,16 @@ entries-pass least (e ∷ es) v h =
 
 -- ---- and what passes is the bytes of entries
 
--- the entries of some bytes
-pub record Entries (least : ℕ) (s : List ℕ) : Type 0 where
+-- the even entries of some bytes
+pub record Whole (s : List ℕ) : Type 0 where
   pub list : List Tlv
   pub bytes : listBytes list ≡ s
   pub even : AllEven list
-  pub remain : Remain least list
+
+-- at each of which `least` bytes remain
+pub record Entries (least : ℕ) (s : List ℕ) : Type 0 where
+  pub entries : Whole s
+  pub remain : Remain least (entries .list)
 
 -- bytes cut in four: two, two, some, and the rest
 cut : (s : List ℕ) (l : ℕ) → take 2 (drop 0 s) ++ take 2 (drop 2 s) ++ take l (drop 4 s) ++ drop (4 + l) s ≡ s
@@ -171,7 +175,7 @@ no-bytes (x ∷ s) h = absurd (not-suc-le-zero h)
 -- of no bytes there are none
 nothing : (least : ℕ) → Entries least []
 unfolding listBytes
-nothing least = record { list = []; bytes = refl; even = tt; remain = tt }
+nothing least = record { entries = record { list = []; bytes = refl; even = tt }; remain = tt }
 
 -- an entry that was read at the start, and the entries of the rest
 module _ (least : ℕ) (s : List ℕ) (b : Bytes s) (t start l : ℕ) (next : TlvCursor) (r : Read least s 0 t start l next) (es : Entries least (drop (next .at) s)) where
@@ -182,31 +186,33 @@ module _ (least : ℕ) (s : List ℕ) (b : Bytes s) (t start l : ℕ) (next : Tl
   v-length = length-take-le l (drop 4 s) (omega (arith, length-drop 4 s, r .within))
 
   abbrev all : List Tlv
-  all = record { type = t; value = v } ∷ es .list
+  all = record { type = t; value = v } ∷ es .entries .list
 
   all-bytes : listBytes all ≡ s
   unfolding listBytes entryBytes
   all-bytes =
       let first : bytesOf 2 t ≡ take 2 (drop 0 s) = ap (bytesOf 2) (r .type) ∙ bytes-be s 0 2 b (omega (arith, r .within)) in
       let second : bytesOf 2 (length v) ≡ take 2 (drop 2 s) = ap (bytesOf 2) (v-length ∙ r .size) ∙ bytes-be s 2 2 b (omega (arith, r .within)) in
-      let rest : listBytes (es .list) ≡ drop (4 + l) s = es .bytes ∙ ap (λ (k : ℕ). drop k s) (r .after) in
-      ap₂ (λ (x y : List ℕ). x ++ y ++ v ++ listBytes (es .list)) first second
+      let rest : listBytes (es .entries .list) ≡ drop (4 + l) s = es .entries .bytes ∙ ap (λ (k : ℕ). drop k s) (r .after) in
+      ap₂ (λ (x y : List ℕ). x ++ y ++ v ++ listBytes (es .entries .list)) first second
       ∙ ap (λ (z : List ℕ). take 2 (drop 0 s) ++ take 2 (drop 2 s) ++ v ++ z) rest
       ∙ cut s l
 
   more : Entries least s
   more =
       record {
-        list = all;
-        bytes = all-bytes;
-        even = (
-          record {
-            type = omega (arith, r .type, beAt-bound s 0 2 b);
-            even = ap (λ (n : ℕ). n % 2) v-length ∙ r .even;
-            fits = omega (arith, v-length, r .size, beAt-bound s 2 2 b);
-          },
-          es .even,
-        );
+        entries = record {
+          list = all;
+          bytes = all-bytes;
+          even = (
+            record {
+              type = omega (arith, r .type, beAt-bound s 0 2 b);
+              even = ap (λ (n : ℕ). n % 2) v-length ∙ r .even;
+              fits = omega (arith, v-length, r .size, beAt-bound s 2 2 b);
+            },
+            es .entries .even,
+          );
+        };
         remain = (omega (arith, ap length all-bytes, r .enough), es .remain);
       }
 
@@ -229,36 +235,24 @@ pass-entries least s b e = pass-in least (suc (length s)) s (omega arith) b e
 -- ---- what a reader and a writer take
 
 -- a reader takes exactly the bytes of even entries of which the last is not empty
-pub taken : (es : List Tlv) → AllEven es → LastFull es → checkList (listBytes es) ≡ 0
-taken es v f = entries-pass leastLeft es v (full-remain es f)
-
 pub record Taken (s : List ℕ) : Type 0 where
-  pub list : List Tlv
-  pub bytes : listBytes list ≡ s
-  pub even : AllEven list
-  pub full : LastFull list
+  pub entries : Whole s
+  pub full : LastFull (entries .list)
+
+pub taken : (s : List ℕ) → Taken s → checkList s ≡ 0
+taken s t =
+    let w = t .entries in
+    subst (λ (l : List ℕ). checkList l ≡ 0) (w .bytes) (entries-pass leastLeft (w .list) (w .even) (full-remain (w .list) (t .full)))
 
 pub taken-back : (s : List ℕ) → Bytes s → checkList s ≡ 0 → Taken s
 taken-back s b e =
     let r = pass-entries leastLeft s b e in
-    record { list = r .list; bytes = r .bytes; even = r .even; full = remain-full (r .list) (r .remain) }
+    record { entries = r .entries; full = remain-full (r .entries .list) (r .remain) }
 
 -- a writer takes exactly the bytes of even entries
-pub whole : (es : List Tlv) → AllEven es → wholeEntries (listBytes es) ≡ true
-whole es v = eq-eqb (listCheck 4 (listBytes es)) 0 (entries-pass 4 es v (four-remain es))
-
-pub record Whole (s : List ℕ) : Type 0 where
-  pub list : List Tlv
-  pub bytes : listBytes list ≡ s
-  pub even : AllEven list
+pub whole : (s : List ℕ) → Whole s → wholeEntries s ≡ true
+whole s w =
+    subst (λ (l : List ℕ). wholeEntries l ≡ true) (w .bytes) (eq-eqb (listCheck 4 (listBytes (w .list))) 0 (entries-pass 4 (w .list) (w .even) (four-remain (w .list))))
 
 pub whole-back : (s : List ℕ) → Bytes s → wholeEntries s ≡ true → Whole s
-whole-back s b e =
-    let r = pass-entries 4 s b (eqb-true (listCheck 4 s) 0 e) in
-    record { list = r .list; bytes = r .bytes; even = r .even }
-
--- so what a reader takes, a writer takes
-pub taken-whole : (s : List ℕ) → Bytes s → checkList s ≡ 0 → wholeEntries s ≡ true
-taken-whole s b e =
-    let r = taken-back s b e in
-    subst (λ (l : List ℕ). wholeEntries l ≡ true) (r .bytes) (whole (r .list) (r .even))
+whole-back s b e = pass-entries 4 s b (eqb-true (listCheck 4 s) 0 e) .entries
