@@ -19,7 +19,8 @@ use Rattle.tlv.specs.Tlv.{answerOf, entryAt, readAt, checkRead, checkIn,
 
 -- ---- the ways of a read
 
-module _ (least : ℕ) (s : List ℕ) (at : ℕ) where
+module _ (s : List ℕ) (at : ℕ) where
+  -- the bytes that are left
   abbrev pub left : ℕ
   left = length s - at
 
@@ -31,25 +32,26 @@ module _ (least : ℕ) (s : List ℕ) (at : ℕ) where
   abbrev pub found : TlvRead
   found = Entry (beAt s at 2) (at + 4) len (record { at = at + 4 + len })
 
+module _ (least : ℕ) (s : List ℕ) (at : ℕ) where
   pub read-none : length s ≤ at → End ≡ entryAt least s at
   unfolding entryAt
   read-none h = rw (le-leb (length s) at h)
 
-  pub read-few : at < length s → left < least → Refused 1 ≡ entryAt least s at
+  pub read-few : at < length s → left s at < least → Refused 1 ≡ entryAt least s at
   unfolding entryAt
-  read-few h k = rw (lt-leb (length s) at h, lt-leb least left k)
+  read-few h k = rw (lt-leb (length s) at h, lt-leb least (left s at) k)
 
-  pub read-odd : at < length s → least ≤ left → (len % 2 ≡ 0 → ⊥) → Refused 4 ≡ entryAt least s at
+  pub read-odd : at < length s → least ≤ left s at → (len s at % 2 ≡ 0 → ⊥) → Refused 4 ≡ entryAt least s at
   unfolding entryAt
-  read-odd h k o = rw (lt-leb (length s) at h, le-leb least left k, ne-eqb (len % 2) 0 o)
+  read-odd h k o = rw (lt-leb (length s) at h, le-leb least (left s at) k, ne-eqb (len s at % 2) 0 o)
 
-  pub read-past : at < length s → least ≤ left → len % 2 ≡ 0 → left < len + 4 → Refused 1 ≡ entryAt least s at
+  pub read-past : at < length s → least ≤ left s at → len s at % 2 ≡ 0 → left s at < len s at + 4 → Refused 1 ≡ entryAt least s at
   unfolding entryAt
-  read-past h k e p = rw (lt-leb (length s) at h, le-leb least left k, eq-eqb (len % 2) 0 e, lt-leb (len + 4) left p)
+  read-past h k e p = rw (lt-leb (length s) at h, le-leb least (left s at) k, eq-eqb (len s at % 2) 0 e, lt-leb (len s at + 4) (left s at) p)
 
-  pub read-entry : at < length s → least ≤ left → len % 2 ≡ 0 → len + 4 ≤ left → found ≡ entryAt least s at
+  pub read-entry : at < length s → least ≤ left s at → len s at % 2 ≡ 0 → len s at + 4 ≤ left s at → found s at ≡ entryAt least s at
   unfolding entryAt
-  read-entry h k e p = rw (lt-leb (length s) at h, le-leb least left k, eq-eqb (len % 2) 0 e, le-leb (len + 4) left p)
+  read-entry h k e p = rw (lt-leb (length s) at h, le-leb least (left s at) k, eq-eqb (len s at % 2) 0 e, le-leb (len s at + 4) (left s at) p)
 
 -- ---- an entry that was read
 
@@ -66,14 +68,14 @@ pub record Read (least : ℕ) (s : List ℕ) (at t b l : ℕ) (next : TlvCursor)
 -- the tests of a read, one by one
 module _ (least : ℕ) (s : List ℕ) (at : ℕ) where
   abbrev byTests : Bool → Bool → Bool → Bool → TlvRead
-  byTests b₁ b₂ b₃ b₄ = cond b₁ End (cond b₂ (cond b₃ (cond b₄ (found least s at) (Refused 1)) (Refused 4)) (Refused 1))
+  byTests b₁ b₂ b₃ b₄ = cond b₁ End (cond b₂ (cond b₃ (cond b₄ (found s at) (Refused 1)) (Refused 4)) (Refused 1))
 
   pub entry-read : (t b l : ℕ) (next : TlvCursor) → entryAt least s at ≡ Entry t b l next → Read least s at t b l next
   unfolding entryAt
   entry-read t b l next e =
-      by (leb (length s) at) (leb least (left least s at)) (eqb (len least s at % 2) 0) (leb (len least s at + 4) (left least s at)) refl refl refl refl e
+      by (leb (length s) at) (leb least (left s at)) (eqb (len s at % 2) 0) (leb (len s at + 4) (left s at)) refl refl refl refl e
     where
-      by : (b₁ b₂ b₃ b₄ : Bool) → leb (length s) at ≡ b₁ → leb least (left least s at) ≡ b₂ → eqb (len least s at % 2) 0 ≡ b₃ → leb (len least s at + 4) (left least s at) ≡ b₄
+      by : (b₁ b₂ b₃ b₄ : Bool) → leb (length s) at ≡ b₁ → leb least (left s at) ≡ b₂ → eqb (len s at % 2) 0 ≡ b₃ → leb (len s at + 4) (left s at) ≡ b₄
           → byTests b₁ b₂ b₃ b₄ ≡ Entry t b l next → Read least s at t b l next
       by true b₂ b₃ b₄ e₁ e₂ e₃ e₄ e = absurd (let z : _≡_ {A = ℕ} 0 1 = cc in omega arith)
       by false false b₃ b₄ e₁ e₂ e₃ e₄ e = absurd (let z : _≡_ {A = ℕ} 0 1 = cc in omega arith)
@@ -82,22 +84,22 @@ module _ (least : ℕ) (s : List ℕ) (at : ℕ) where
       by false true true true e₁ e₂ e₃ e₄ e =
           let ct : t ≡ beAt s at 2 = cc in
           let cb : b ≡ at + 4 = cc in
-          let cl : l ≡ len least s at = cc in
-          let cn : next ≡ (record { at = at + 4 + len least s at }) = cc in
+          let cl : l ≡ len s at = cc in
+          let cn : next ≡ (record { at = at + 4 + len s at }) = cc in
           record {
             type = ct;
             start = cb;
             size = cl;
             after = ap (λ (x : TlvCursor). x .at) cn ∙ ap (λ (n : ℕ). at + 4 + n) (sym cl);
-            even = ap (λ (n : ℕ). n % 2) cl ∙ eqb-true (len least s at % 2) 0 e₃;
-            enough = leb-true least (left least s at) e₂;
-            within = omega (arith, cl, leb-false (length s) at e₁, leb-true (len least s at + 4) (left least s at) e₄);
+            even = ap (λ (n : ℕ). n % 2) cl ∙ eqb-true (len s at % 2) 0 e₃;
+            enough = leb-true least (left s at) e₂;
+            within = omega (arith, cl, leb-false (length s) at e₁, leb-true (len s at + 4) (left s at) e₄);
           }
 
   -- none is read where no byte is left
   pub none-read : entryAt least s at ≡ End → length s ≤ at
   unfolding entryAt
-  none-read e = by (leb (length s) at) (leb least (left least s at)) (eqb (len least s at % 2) 0) (leb (len least s at + 4) (left least s at)) refl e
+  none-read e = by (leb (length s) at) (leb least (left s at)) (eqb (len s at % 2) 0) (leb (len s at + 4) (left s at)) refl e
     where
       by : (b₁ b₂ b₃ b₄ : Bool) → leb (length s) at ≡ b₁ → byTests b₁ b₂ b₃ b₄ ≡ End → length s ≤ at
       by true b₂ b₃ b₄ e₁ e = leb-true (length s) at e₁
@@ -109,7 +111,7 @@ module _ (least : ℕ) (s : List ℕ) (at : ℕ) where
   -- the number of a refusal is not that of done
   pub refusal-read : (n : ℕ) → entryAt least s at ≡ Refused n → 0 < n
   unfolding entryAt
-  refusal-read n e = by (leb (length s) at) (leb least (left least s at)) (eqb (len least s at % 2) 0) (leb (len least s at + 4) (left least s at)) e
+  refusal-read n e = by (leb (length s) at) (leb least (left s at)) (eqb (len s at % 2) 0) (leb (len s at + 4) (left s at)) e
     where
       by : (b₁ b₂ b₃ b₄ : Bool) → byTests b₁ b₂ b₃ b₄ ≡ Refused n → 0 < n
       by true b₂ b₃ b₄ e = absurd (let z : _≡_ {A = ℕ} 0 1 = cc in omega arith)
@@ -121,16 +123,16 @@ module _ (least : ℕ) (s : List ℕ) (at : ℕ) where
   -- in the paper's numbers: 0 and none where no byte is left; 1, 4 and 1 in its order; else 0 with type and value
   pub read-answer : answerOf s (entryAt least s at)
       ≡ cond (leb (length s) at) (0, none)
-      (cond (leb least (left least s at))
-      (cond (eqb (len least s at % 2) 0)
-      (cond (leb (len least s at + 4) (left least s at)) (0, some (record { type = beAt s at 2; value = take (len least s at) (drop (at + 4) s) })) (1, none))
+      (cond (leb least (left s at))
+      (cond (eqb (len s at % 2) 0)
+      (cond (leb (len s at + 4) (left s at)) (0, some (record { type = beAt s at 2; value = take (len s at) (drop (at + 4) s) })) (1, none))
       (4, none))
       (1, none))
   unfolding entryAt
-  read-answer = by (leb (length s) at) (leb least (left least s at)) (eqb (len least s at % 2) 0) (leb (len least s at + 4) (left least s at))
+  read-answer = by (leb (length s) at) (leb least (left s at)) (eqb (len s at % 2) 0) (leb (len s at + 4) (left s at))
     where
       by : (b₁ b₂ b₃ b₄ : Bool) → answerOf s (byTests b₁ b₂ b₃ b₄)
-          ≡ cond b₁ (0, none) (cond b₂ (cond b₃ (cond b₄ (0, some (record { type = beAt s at 2; value = take (len least s at) (drop (at + 4) s) })) (1, none)) (4, none)) (1, none))
+          ≡ cond b₁ (0, none) (cond b₂ (cond b₃ (cond b₄ (0, some (record { type = beAt s at 2; value = take (len s at) (drop (at + 4) s) })) (1, none)) (4, none)) (1, none))
       by true b₂ b₃ b₄ = refl
       by false false b₃ b₄ = refl
       by false true false b₄ = refl

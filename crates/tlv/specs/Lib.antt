@@ -1,3 +1,4 @@
+-- The definitions and laws of TLVs.
 pub mod Tlv
 pub mod Laws
 pub mod Kind
