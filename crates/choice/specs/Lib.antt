@@ -1,0 +1,4 @@
+-- The definitions and laws of the choice.
+pub mod Choice
+pub mod Candidate
+pub mod Steps
