@@ -3,3 +3,4 @@ pub mod Order
 pub mod Dataset
 pub mod Rows
 pub mod Laws
+pub mod Lines

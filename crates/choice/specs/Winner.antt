@@ -1,0 +1,69 @@
+-- Demand 3 of the choice: with and without the agreement.
+-- Assumes nothing.
+use mathlib.Core.Path.{_≡_, refl, sym, ap, subst, _∙_}
+use mathlib.Core.Bool.{Bool, true, false}
+use mathlib.Core.List.{List, List·Memᴰ, map}
+use mathlib.Core.Option.{Option, some}
+use Rattle.compare.specs.declared.Ordering.{Ordering}
+use Rattle.compare.specs.declared.Ordering.the-variants.{Less, Equal, Greater}
+use Rattle.compare.specs.Order.{cmp, thenBy, isGreater}
+use Rattle.compare.specs.Dataset.{asOrdering, compareOf, ranksAbove}
+use Rattle.choice.specs.declared.Candidate.{Candidate}
+use Rattle.choice.specs.Choice.{choose, joined, All, AllOf}
+use Rattle.choice.specs.Candidate.{datasetOf, ranking, stays, itself, staysBy, winner, erbests, ebest, single}
+use Rattle.choice.specs.Agreement.{Agreeing}
+use Rattle.choice.specs.Chosen.{all-in, all-at, weak-by, choose-once, choose-agree, choose-has, choose-top, choose-map, mapOption, Last, choose-last}
+use Rattle.choice.specs.Ranking.{rowAbove, row-weak, stays-row}
+
+module _ {A : Type 0} (shown : A → Candidate) where
+  -- The winner is one of the candidates, with or without the agreement.
+  pub winner-in : (xs : List A) (w : A) → winner shown xs ≡ some w → List·Memᴰ w xs
+  unfolding winner
+  winner-in xs w e = subst (AllOf (λ x. List·Memᴰ x xs)) e (choose-has (λ x. List·Memᴰ x xs) (staysBy shown) xs (all-in xs (λ x m. m)))
+
+  -- It is above each candidate that comes after it: of equals the last is chosen.
+  pub winner-last : (xs : List A) (w : A) → winner shown xs ≡ some w → Last (staysBy shown) xs w
+  unfolding winner
+  winner-last xs w e = subst (AllOf (Last (staysBy shown) xs)) e (choose-last (staysBy shown) xs)
+
+  -- Choosing whole records is choosing what they show.
+  pub winner-shown : (xs : List A) → winner itself (map shown xs) ≡ mapOption shown (winner shown xs)
+  unfolding winner
+  winner-shown xs = choose-map shown stays xs
+
+module _ {A : Type 0} {shown : A → Candidate} {xs : List A} (a : Agreeing shown xs) where
+  abbrev above : A → A → Bool
+  above x y = rowAbove (shown x) (shown y)
+
+  stays-above : (x y : A) → List·Memᴰ x xs → List·Memᴰ y xs → staysBy shown x y ≡ above x y
+  stays-above x y m n = stays-row (shown x) (shown y) (a .foreign x m) (a .foreign y n) (a .agree x y m n)
+
+  -- No candidate would stay before the winner,
+  pub none-stays : (w : A) → winner shown xs ≡ some w → (x : A) → List·Memᴰ x xs → staysBy shown x w ≡ false
+  unfolding winner
+  none-stays w e x m =
+      stays-above x w m (winner-in shown xs w e)
+      ∙ all-at (λ y. above y w ≡ false) x xs
+      (subst (AllOf (λ v. All (λ y. above y v ≡ false) xs)) (sym (choose-agree stays-above xs (all-in xs (λ y n. n))) ∙ e) (choose-top (weak-by shown row-weak) xs))
+      m
+
+  -- and so none ranks above it.
+  pub none-above : (w : A) → winner shown xs ≡ some w → (x : A) → List·Memᴰ x xs → ranksAbove (compareOf (datasetOf (shown x)) (datasetOf (shown w))) ≡ false
+  unfolding stays ranking
+  none-above w e x m = first (asOrdering (compareOf (datasetOf (shown x)) (datasetOf (shown w)))) (cmp (shown w .age) (shown x .age)) (none-stays w e x m)
+    where
+      first : (o p : Ordering) → isGreater (thenBy o p) ≡ false → isGreater o ≡ false
+      first Less p n = refl
+      first Equal p n = refl
+      first Greater p n = n
+
+module _ {A : Type 0} (shown : A → Candidate) (ports : List (List A)) (a : Agreeing shown (joined ports)) where
+  -- A winner per port and a winner among those is the winner of a single choice over all, in the same order.
+  pub choosing-once : single shown ports ≡ ebest shown ports
+  unfolding single ebest erbests winner
+  choosing-once = choose-once (stays-above a) (weak-by shown row-weak) ports (all-in (joined ports) (λ x m. m))
+
+  -- So no candidate of any port ranks above Ebest.
+  pub ebest-none-above : (w : A) → ebest shown ports ≡ some w → (x : A) → List·Memᴰ x (joined ports) → ranksAbove (compareOf (datasetOf (shown x)) (datasetOf (shown w))) ≡ false
+  unfolding single
+  ebest-none-above w e x m = none-above a w (choosing-once ∙ e) x m
