@@ -1,0 +1,3 @@
+-- The equality of whole messages, as a test and as what it says.
+pub mod Test
+pub mod Same
