@@ -1,0 +1,3 @@
+-- The definitions and laws of the state decision.
+pub mod State
+pub mod Steps

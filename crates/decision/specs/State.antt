@@ -1,0 +1,136 @@
+-- The state decision: what each port is to do, after bmca.rs and figure 33 of IEEE 1588-2019.
+-- Assumes nothing.
+use mathlib.Core.Bool.{Bool, true, false, cond, _&&_}
+use mathlib.Core.List.{List, [], _∷_}
+use mathlib.Core.Option.{Option, none, some}
+use Prim.Native.Nat.{ℕ, suc}
+use lib.Dec.{leb, eqb}
+use Rattle.wire.specs.Flags.{bit}
+use Rattle.announce.specs.declared.AnnounceMessage.{AnnounceMessage}
+use Rattle.compare.specs.declared.ComparisonDataset.{ComparisonDataset}
+use Rattle.compare.specs.declared.InternalDefaultDS.{InternalDefaultDS}
+use Rattle.compare.specs.declared.Ordering.{Ordering}
+use Rattle.compare.specs.declared.Ordering.the-variants.{Less, Equal, Greater}
+use Rattle.compare.specs.Dataset.{ofAnnounce, ofOwn, compareOf, asOrdering, isByTopology}
+use Rattle.choice.specs.declared.BestAnnounceMessage.{BestAnnounceMessage}
+use Rattle.choice.specs.Choice.{keep, present}
+use Rattle.choice.specs.Candidate.{whole, staysBy, winner, erbests}
+use Rattle.same.specs.Same.{samePort, sameMessage}
+use Rattle.decision.specs.declared.BestMessage.{BestMessage}
+use Rattle.decision.specs.declared.BestMessage.the-variants.{Nothing, Found}
+use Rattle.decision.specs.declared.MessageComparison.{MessageComparison}
+use Rattle.decision.specs.declared.MessageComparison.the-variants.{Better, Same, Worse}
+use Rattle.decision.specs.declared.PortAnswer.{PortAnswer}
+use Rattle.decision.specs.declared.RecommendedState.{RecommendedState}
+use Rattle.decision.specs.declared.RecommendedState.the-variants.{Stay, M1, M2, M3, P1, P2, S1}
+
+-- a best message, if there is one
+abbrev pub optionOf : BestMessage → Option BestAnnounceMessage
+optionOf Nothing = none
+optionOf (Found b) = some b
+
+-- Ebest, by the Erbests, port 1 first
+unfoldable pub ebestOf : List (Option BestAnnounceMessage) → Option BestAnnounceMessage
+ebestOf os = winner whole (present os)
+
+-- one step of that choice: a port without an Erbest changes nothing
+abbrev pub keepFound : Option BestAnnounceMessage → Option BestAnnounceMessage → Option BestAnnounceMessage
+keepFound held none = held
+keepFound none (some b) = some b
+keepFound (some held) (some b) = some (keep (staysBy whole) held b)
+
+-- the comparison set of a best message
+abbrev pub setOf : BestAnnounceMessage → ComparisonDataset
+setOf b = ofAnnounce (b .message) (b .identity)
+
+-- the whole records are equal: receiver, age, and message with its header
+unfoldable pub sameBest : BestAnnounceMessage → BestAnnounceMessage → Bool
+sameBest a b = samePort (a .identity) (b .identity) && (eqb (a .age) (b .age) && sameMessage (a .message) (b .message))
+
+-- our own data against the best message
+abbrev pub comparedBy : Ordering → BestAnnounceMessage → MessageComparison
+comparedBy Less b = Worse b
+comparedBy Equal b = Same
+comparedBy Greater b = Better
+
+abbrev pub compareD0 : ComparisonDataset → Option BestAnnounceMessage → MessageComparison
+compareD0 d0 none = Better
+compareD0 d0 (some b) = comparedBy (asOrdering (compareOf d0 (setOf b))) b
+
+-- Ebest ranks above our own data, and the port has an Erbest
+unfoldable pub globalAndPort : BestAnnounceMessage → BestAnnounceMessage → RecommendedState
+globalAndPort g p =
+    cond (sameBest g p) (S1 (g .message))
+    (cond (isByTopology (compareOf (setOf g) (setOf p))) (P2 (p .message)) (M3 (g .message)))
+
+-- clock class 1 to 127: Erbest alone
+abbrev pub lowBy : InternalDefaultDS → MessageComparison → RecommendedState
+lowBy own Better = M1 own
+lowBy own Same = M1 own
+lowBy own (Worse p) = P1 (p .message)
+
+abbrev pub lowClass : InternalDefaultDS → Option BestAnnounceMessage → RecommendedState
+lowClass own p = lowBy own (compareD0 (ofOwn own) p)
+
+-- any other class: Ebest first
+abbrev pub againstPort : BestAnnounceMessage → Option BestAnnounceMessage → RecommendedState
+againstPort g none = M3 (g .message)
+againstPort g (some p) = globalAndPort g p
+
+abbrev pub highBy : InternalDefaultDS → MessageComparison → Option BestAnnounceMessage → RecommendedState
+highBy own Better p = M2 own
+highBy own Same p = M2 own
+highBy own (Worse g) p = againstPort g p
+
+abbrev pub highClass : InternalDefaultDS → Option BestAnnounceMessage → Option BestAnnounceMessage → RecommendedState
+highClass own g p = highBy own (compareD0 (ofOwn own) g) p
+
+unfoldable pub low : InternalDefaultDS → Bool
+low own = leb 1 (own .«clock_quality» .«clock_class») && leb (own .«clock_quality» .«clock_class») 127
+
+abbrev pub byClass : InternalDefaultDS → Option BestAnnounceMessage → Option BestAnnounceMessage → RecommendedState
+byClass own g p = cond (low own) (lowClass own p) (highClass own g p)
+
+-- one port: a listening one without an Erbest stays as it is, whatever the class
+abbrev pub stays : Bool → Option BestAnnounceMessage → Bool
+stays listening none = listening
+stays listening (some p) = false
+
+unfoldable pub stateOf : InternalDefaultDS → Option BestAnnounceMessage → Option BestAnnounceMessage → Bool → RecommendedState
+stateOf own g p listening = cond (stays listening p) Stay (byClass own g p)
+
+-- all ports, the next one numbered k + 1: bit k of the byte is set if it listens
+unfoldable pub answersFrom : InternalDefaultDS → Option BestAnnounceMessage → ℕ → ℕ → List (Option BestAnnounceMessage) → List PortAnswer
+answersFrom own g listening k [] = []
+answersFrom own g listening k (p ∷ ps) = record { «port_number» = suc k; state = stateOf own g p (bit listening k) } ∷ answersFrom own g listening (suc k) ps
+
+abbrev pub answersOf : InternalDefaultDS → ℕ → List (Option BestAnnounceMessage) → List PortAnswer
+answersOf own listening os = answersFrom own (ebestOf os) listening 0 os
+
+-- a decision, by the candidates of the ports, port 1 first
+abbrev pub decisionOf : InternalDefaultDS → ℕ → List (List BestAnnounceMessage) → List PortAnswer
+decisionOf own listening ports = answersOf own listening (erbests whole ports)
+
+-- the paper's number of a state, and what it carries
+abbrev pub numberOf : RecommendedState → ℕ
+numberOf Stay = 0
+numberOf (M1 own) = 1
+numberOf (M2 own) = 2
+numberOf (M3 m) = 3
+numberOf (P1 m) = 4
+numberOf (P2 m) = 5
+numberOf (S1 m) = 6
+
+pub data Carried : Type 0 where
+  nothing : Carried
+  ownData : InternalDefaultDS → Carried
+  message : AnnounceMessage → Carried
+
+abbrev pub carried : RecommendedState → Carried
+carried Stay = nothing
+carried (M1 own) = ownData own
+carried (M2 own) = ownData own
+carried (M3 m) = message m
+carried (P1 m) = message m
+carried (P2 m) = message m
+carried (S1 m) = message m

@@ -1,0 +1,154 @@
+-- The steps of the code, by their cases.
+-- Assumes nothing.
+use mathlib.Core.Path.{_≡_, refl}
+use mathlib.Core.Bool.{Bool, true, false, cond}
+use mathlib.Core.List.{List, [], _∷_, map, _++_, append-nil, append-assoc}
+use mathlib.Core.Option.{Option, none, some}
+use Prim.Native.Nat.{ℕ, suc, _+_, _/_, _%_, _^_, _≤_, _<_}
+use native.Mathlib.Nat.{div-div-eq-div-mul, pow-succ', mul-comm}
+use native.Mathlib.Numerals.{add-one}
+use native.Mathlib.Omega.{arith}
+use lib.Dec.{eqb}
+use lib.ListN.{length, take, drop, getD, set, drop-of-length-le}
+use lib.Seq.{drop-cons, take-suc-set, take-all}
+use borrow.Author.Tests.{le-leb, lt-leb, eq-eqb, ne-eqb}
+use Rattle.compare.specs.declared.ComparisonDataset.{ComparisonDataset}
+use Rattle.compare.specs.declared.InternalDefaultDS.{InternalDefaultDS}
+use Rattle.compare.specs.declared.Ordering.{Ordering}
+use Rattle.compare.specs.Dataset.{compareOf, asOrdering, isByTopology}
+use Rattle.choice.specs.declared.BestAnnounceMessage.{BestAnnounceMessage}
+use Rattle.choice.specs.Choice.{keep, from, choose, present}
+use Rattle.choice.specs.Candidate.{whole, staysBy, winner}
+use Rattle.same.specs.Same.{samePort, sameMessage}
+use Rattle.decision.specs.declared.BestMessage.{BestMessage}
+use Rattle.decision.specs.declared.BestMessage.the-variants.{Nothing, Found}
+use Rattle.decision.specs.declared.PortAnswer.{PortAnswer}
+use Rattle.decision.specs.declared.RecommendedState.{RecommendedState}
+use Rattle.decision.specs.declared.RecommendedState.the-variants.{Stay, M3, P2, S1}
+use Rattle.decision.specs.State.{optionOf, keepFound, ebestOf, setOf, sameBest, comparedBy, compareD0, globalAndPort, againstPort, lowClass, highClass, low, byClass, stays, stateOf, answersFrom}
+
+-- one step of the choice among the Erbests
+module _ (s n : BestMessage) where
+  pub keep-alone : n ≡ Nothing → optionOf s ≡ keepFound (optionOf s) (optionOf n)
+  keep-alone e = rw e
+
+  pub keep-first : (b : BestAnnounceMessage) → s ≡ Nothing → n ≡ Found b → some b ≡ keepFound (optionOf s) (optionOf n)
+  keep-first b e f = rw (e, f)
+
+  pub keep-held : (h b : BestAnnounceMessage) → s ≡ Found h → n ≡ Found b → staysBy whole h b ≡ true → some h ≡ keepFound (optionOf s) (optionOf n)
+  keep-held h b e f t = rw (e, f, t)
+
+  pub keep-next : (h b : BestAnnounceMessage) → s ≡ Found h → n ≡ Found b → staysBy whole h b ≡ false → some b ≡ keepFound (optionOf s) (optionOf n)
+  keep-next h b e f t = rw (e, f, t)
+
+-- all steps
+unfoldable pub keepAll : Option BestAnnounceMessage → List (Option BestAnnounceMessage) → Option BestAnnounceMessage
+keepAll held [] = held
+keepAll held (o ∷ os) = keepAll (keepFound held o) os
+
+steps-some : (h : BestAnnounceMessage) (os : List (Option BestAnnounceMessage)) → keepAll (some h) os ≡ some (from (staysBy whole) h (present os))
+unfolding keepAll from
+steps-some h [] = refl
+steps-some h (none ∷ os) = steps-some h os
+steps-some h (some b ∷ os) = steps-some (keep (staysBy whole) h b) os
+
+pub steps-ebest : (os : List (Option BestAnnounceMessage)) → keepAll none os ≡ ebestOf os
+unfolding keepAll ebestOf winner choose
+steps-ebest [] = refl
+steps-ebest (none ∷ os) = steps-ebest os
+steps-ebest (some b ∷ os) = steps-some b os
+
+-- whole records
+module _ (a b : BestAnnounceMessage) where
+  pub other-port : samePort (a .identity) (b .identity) ≡ false → sameBest a b ≡ false
+  unfolding sameBest
+  other-port e = rw e
+
+  pub other-age : samePort (a .identity) (b .identity) ≡ true → (a .age ≡ b .age → ⊥) → sameBest a b ≡ false
+  unfolding sameBest
+  other-age e n = rw (e, ne-eqb (a .age) (b .age) n)
+
+  pub same-rest : samePort (a .identity) (b .identity) ≡ true → a .age ≡ b .age → sameBest a b ≡ sameMessage (a .message) (b .message)
+  unfolding sameBest
+  same-rest e f = rw (e, eq-eqb (a .age) (b .age) f)
+
+  -- Ebest against the port's Erbest
+  pub state-same : sameBest a b ≡ true → globalAndPort a b ≡ S1 (a .message)
+  unfolding globalAndPort
+  state-same e = rw e
+
+  pub state-near : sameBest a b ≡ false → isByTopology (compareOf (setOf a) (setOf b)) ≡ true → globalAndPort a b ≡ P2 (b .message)
+  unfolding globalAndPort
+  state-near e f = rw (e, f)
+
+  pub state-far : sameBest a b ≡ false → isByTopology (compareOf (setOf a) (setOf b)) ≡ false → globalAndPort a b ≡ M3 (a .message)
+  unfolding globalAndPort
+  state-far e f = rw (e, f)
+
+-- Ebest ranks above our own data: by whether the port has an Erbest
+module _ (g : BestAnnounceMessage) (s : BestMessage) where
+  pub against-none : s ≡ Nothing → M3 (g .message) ≡ againstPort g (optionOf s)
+  against-none e = rw e
+
+  pub against-found : (p : BestAnnounceMessage) (r : RecommendedState) → s ≡ Found p → r ≡ globalAndPort g p → r ≡ againstPort g (optionOf s)
+  against-found p r e f = rw e f
+
+-- our own data against a best message that is there
+pub compared : (d0 : ComparisonDataset) (s : BestMessage) (b : BestAnnounceMessage) (o : Ordering) → s ≡ Found b → o ≡ asOrdering (compareOf d0 (setOf b)) → comparedBy o b ≡ compareD0 d0 (optionOf s)
+compared d0 s b o e f = rw (e, f)
+
+-- our clock class
+pub low-below : (own : InternalDefaultDS) → own .«clock_quality» .«clock_class» < 1 → low own ≡ false
+unfolding low
+low-below own h = simp (lt-leb 1 (own .«clock_quality» .«clock_class») h)
+
+pub low-above : (own : InternalDefaultDS) → 127 < own .«clock_quality» .«clock_class» → low own ≡ false
+unfolding low
+low-above own h = simp (le-leb 1 (own .«clock_quality» .«clock_class») (omega arith), lt-leb (own .«clock_quality» .«clock_class») 127 h)
+
+pub low-within : (own : InternalDefaultDS) → 1 ≤ own .«clock_quality» .«clock_class» → own .«clock_quality» .«clock_class» ≤ 127 → low own ≡ true
+unfolding low
+low-within own h k = simp (le-leb 1 (own .«clock_quality» .«clock_class») h, le-leb (own .«clock_quality» .«clock_class») 127 k)
+
+module _ (own : InternalDefaultDS) (g p : Option BestAnnounceMessage) where
+  pub class-low : low own ≡ true → byClass own g p ≡ lowClass own p
+  class-low e = rw e
+
+  pub class-high : low own ≡ false → byClass own g p ≡ highClass own g p
+  class-high e = rw e
+
+-- one port: only a listening one without an Erbest stays
+module _ (own : InternalDefaultDS) (g : Option BestAnnounceMessage) (s : BestMessage) where
+  pub state-stays : (listening : Bool) → listening ≡ true → s ≡ Nothing → stateOf own g (optionOf s) listening ≡ Stay
+  unfolding stateOf
+  state-stays listening e f = rw (e, f)
+
+  pub state-found : (listening : Bool) (b : BestAnnounceMessage) → s ≡ Found b → stateOf own g (optionOf s) listening ≡ byClass own g (optionOf s)
+  unfolding stateOf
+  state-found listening b e = rw e
+
+  pub state-deaf : (listening : Bool) → listening ≡ false → stateOf own g (optionOf s) listening ≡ byClass own g (optionOf s)
+  unfolding stateOf
+  state-deaf listening e = go (optionOf s)
+    where
+      go : (o : Option BestAnnounceMessage) → cond (stays listening o) Stay (byClass own g o) ≡ byClass own g o
+      go none = rw e
+      go (some b) = refl
+
+-- the answers of all ports, one after the other
+pub halved : (x bits i : ℕ) → bits ≡ x / 2 ^ i → bits / 2 ≡ x / 2 ^ (i + 1)
+halved x bits i e = rw (e, add-one i, pow-succ' 2 i, mul-comm 2 (2 ^ i)) (div-div-eq-div-mul x (2 ^ i) 2)
+
+module _ (own : InternalDefaultDS) (g : Option BestAnnounceMessage) (listening : ℕ) (xs : List BestMessage) (out : List PortAnswer) where
+  pub answered-next :
+      (bits i : ℕ) (d : BestMessage) (s : RecommendedState) → i < length xs → i < length out → bits ≡ listening / 2 ^ i
+      → s ≡ stateOf own g (optionOf (getD xs i d)) (eqb (bits % 2) 1)
+      → take (i + 1) (set out i (record { «port_number» = i + 1; state = s })) ++ answersFrom own g listening (i + 1) (map optionOf (drop (i + 1) xs))
+      ≡ take i out ++ answersFrom own g listening i (map optionOf (drop i xs))
+  unfolding answersFrom
+  answered-next bits i d s h k e f =
+      rw (add-one i, take-suc-set out i (record { «port_number» = suc i; state = s }) k, append-assoc (take i out) (record { «port_number» = suc i; state = s } ∷ []) (answersFrom own g listening (suc i) (map optionOf (drop (suc i) xs))), drop-cons xs i d h, f, e)
+
+  pub answered-all : (i : ℕ) → length xs ≤ i → length out ≤ i → take i out ++ answersFrom own g listening i (map optionOf (drop i xs)) ≡ out
+  unfolding answersFrom
+  answered-all i h k = rw (drop-of-length-le xs h, take-all i out k) (append-nil out)
