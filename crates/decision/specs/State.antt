@@ -1,11 +1,9 @@
 -- The state decision: what each port is to do, after bmca.rs and figure 33 of IEEE 1588-2019.
 -- Assumes nothing.
 use mathlib.Core.Bool.{Bool, true, false, cond, _&&_}
-use mathlib.Core.List.{List, [], _∷_}
 use mathlib.Core.Option.{Option, none, some}
-use Prim.Native.Nat.{ℕ, suc}
+use Prim.Native.Nat.{ℕ}
 use lib.Dec.{leb, eqb}
-use Rattle.wire.specs.Flags.{bit}
 use Rattle.announce.specs.declared.AnnounceMessage.{AnnounceMessage}
 use Rattle.compare.specs.declared.ComparisonDataset.{ComparisonDataset}
 use Rattle.compare.specs.declared.InternalDefaultDS.{InternalDefaultDS}
@@ -13,14 +11,11 @@ use Rattle.compare.specs.declared.Ordering.{Ordering}
 use Rattle.compare.specs.declared.Ordering.the-variants.{Less, Equal, Greater}
 use Rattle.compare.specs.Dataset.{ofAnnounce, ofOwn, compareOf, asOrdering, isByTopology}
 use Rattle.choice.specs.declared.BestAnnounceMessage.{BestAnnounceMessage}
-use Rattle.choice.specs.Choice.{keep, present}
-use Rattle.choice.specs.Candidate.{whole, staysBy, winner, erbests}
 use Rattle.same.specs.Same.{samePort, sameMessage}
 use Rattle.decision.specs.declared.BestMessage.{BestMessage}
 use Rattle.decision.specs.declared.BestMessage.the-variants.{Nothing, Found}
 use Rattle.decision.specs.declared.MessageComparison.{MessageComparison}
 use Rattle.decision.specs.declared.MessageComparison.the-variants.{Better, Same, Worse}
-use Rattle.decision.specs.declared.PortAnswer.{PortAnswer}
 use Rattle.decision.specs.declared.RecommendedState.{RecommendedState}
 use Rattle.decision.specs.declared.RecommendedState.the-variants.{Stay, M1, M2, M3, P1, P2, S1}
 
@@ -28,16 +23,6 @@ use Rattle.decision.specs.declared.RecommendedState.the-variants.{Stay, 
 abbrev pub optionOf : BestMessage → Option BestAnnounceMessage
 optionOf Nothing = none
 optionOf (Found b) = some b
-
--- Ebest, by the Erbests, port 1 first
-unfoldable pub ebestOf : List (Option BestAnnounceMessage) → Option BestAnnounceMessage
-ebestOf os = winner whole (present os)
-
--- one step of that choice: a port without an Erbest changes nothing
-abbrev pub keepFound : Option BestAnnounceMessage → Option BestAnnounceMessage → Option BestAnnounceMessage
-keepFound held none = held
-keepFound none (some b) = some b
-keepFound (some held) (some b) = some (keep (staysBy whole) held b)
 
 -- the comparison set of a best message
 abbrev pub setOf : BestAnnounceMessage → ComparisonDataset
@@ -98,18 +83,6 @@ stays listening (some p) = false
 
 unfoldable pub stateOf : InternalDefaultDS → Option BestAnnounceMessage → Option BestAnnounceMessage → Bool → RecommendedState
 stateOf own g p listening = cond (stays listening p) Stay (byClass own g p)
-
--- all ports, the next one numbered k + 1: bit k of the byte is set if it listens
-unfoldable pub answersFrom : InternalDefaultDS → Option BestAnnounceMessage → ℕ → ℕ → List (Option BestAnnounceMessage) → List PortAnswer
-answersFrom own g listening k [] = []
-answersFrom own g listening k (p ∷ ps) = record { «port_number» = suc k; state = stateOf own g p (bit listening k) } ∷ answersFrom own g listening (suc k) ps
-
-abbrev pub answersOf : InternalDefaultDS → ℕ → List (Option BestAnnounceMessage) → List PortAnswer
-answersOf own listening os = answersFrom own (ebestOf os) listening 0 os
-
--- a decision, by the candidates of the ports, port 1 first
-abbrev pub decisionOf : InternalDefaultDS → ℕ → List (List BestAnnounceMessage) → List PortAnswer
-decisionOf own listening ports = answersOf own listening (erbests whole ports)
 
 -- the paper's number of a state, and what it carries
 abbrev pub numberOf : RecommendedState → ℕ

@@ -6,8 +6,7 @@ use compare::DatasetOrdering;
 use compare::InternalDefaultDS;
 use compare::Ordering;
 ghost use mathlib.Core.Path.{_≡_};
-ghost use mathlib.Core.List.{map};
-ghost use Rattle.decision.specs.State.{optionOf, sameBest, keepFound, ebestOf, compareD0, globalAndPort, lowClass, highClass, byClass, stateOf, numberOf, answersOf};
+ghost use Rattle.decision.specs.State.{optionOf, sameBest, compareD0, globalAndPort, lowClass, highClass, byClass, stateOf, numberOf};
 
 // Ebest or Erbest, if there is one.
 pub enum BestMessage {
@@ -55,12 +54,6 @@ impl RecommendedState {
     }
 }
 
-// A port's answer.
-pub struct PortAnswer {
-    pub port_number: u16,
-    pub state: RecommendedState,
-}
-
 // The whole of two records is equal: receiver, age, and message with its header.
 fn same_best(a: BestAnnounceMessage, b: BestAnnounceMessage) -> bool
     ensures { λ r. ⌜ r ≡ sameBest a b ⌝ }
@@ -76,41 +69,6 @@ fn same_best(a: BestAnnounceMessage, b: BestAnnounceMessage) -> bool
         return false;
     }
     false
-}
-
-impl BestMessage {
-    // One step of the choice among the ports' best: a port without one changes nothing.
-    fn keep(self, next: BestMessage) -> BestMessage
-        ensures { λ r. ⌜ optionOf r ≡ keepFound (optionOf self) (optionOf next) ⌝ }
-    {
-        match next {
-            BestMessage::Nothing => self,
-            BestMessage::Found(b) => match self {
-                BestMessage::Nothing => next,
-                BestMessage::Found(held) => {
-                    if held.candidate(0).stays(b.candidate(0)) {
-                        self
-                    } else {
-                        next
-                    }
-                }
-            },
-        }
-    }
-}
-
-// Ebest: the choice among the Erbests, port 1 first.
-pub fn ebest(erbests: [BestMessage; 8]) -> BestMessage
-    ensures { λ r. ⌜ optionOf r ≡ ebestOf (map optionOf erbests) ⌝ }
-{
-    let mut held = BestMessage::Nothing;
-    let mut i = 0;
-    while i < 8 {
-        let next = erbests[i];
-        held = held.keep(next);
-        i += 1;
-    }
-    held
 }
 
 // Our own data D0 against the best message.
@@ -225,34 +183,4 @@ fn compare_global_and_port(
         return RecommendedState::P2(ours);
     }
     RecommendedState::M3(best)
-}
-
-// The state decision for all ports by their Erbests, port 1 first; bit k - 1 of the byte is set if port k listens. Where a box has
-// fewer ports, the last places hold nothing and their answers mean nothing.
-pub fn recommended_states(
-    own: InternalDefaultDS,
-    erbests: [BestMessage; 8],
-    listening: u8,
-) -> [PortAnswer; 8]
-    ensures { λ r. ⌜ r ≡ answersOf own listening (map optionOf erbests) ⌝ }
-{
-    let global = ebest(erbests);
-    let stay = PortAnswer {
-        port_number: 0,
-        state: RecommendedState::Stay,
-    };
-    let mut answers = [stay; 8];
-    let mut bits = listening;
-    let mut i = 0;
-    while i < 8 {
-        let port = erbests[i];
-        let state = calculate_recommended_state(own, global, port, bits % 2 == 1);
-        answers[i] = PortAnswer {
-            port_number: i as u16 + 1,
-            state: state,
-        };
-        bits = bits / 2;
-        i += 1;
-    }
-    answers
 }

@@ -6,10 +6,11 @@ use Prim.Native.Nat.{_≤_, _<_, _-_, _/_, _^_}
 use native.Mathlib.Omega.{arith}
 use lib.ListN.{length, take, drop, length-set}
 use borrow.Author.Needs.{needs}
-use Rattle.decision.specs.State.{optionOf, answersFrom}
-use Rattle.decision.specs.Steps.{halved, answered-next, answered-all}
-use Rattle.decision.proofs.recommended_states.Statement.{statement}
-use Rattle.decision.proofs.recommended_states.Tie as tie
+use Rattle.decision.specs.State.{optionOf}
+use Rattle.states.specs.Ports.{answersFrom}
+use Rattle.states.specs.Steps.{halved, answered-next, answered-all}
+use Rattle.states.proofs.recommended_states.Statement.{statement}
+use Rattle.states.proofs.recommended_states.Tie as tie
 
 abbrev Inv-loop : tie.InvT-loop
 Inv-loop own listening erbests global answers₀ bits₀ i₀ answers bits i =

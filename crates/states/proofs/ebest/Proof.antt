@@ -9,10 +9,10 @@ use native.Mathlib.Omega.{arith}
 use lib.ListN.{length, drop, drop-of-length-le}
 use lib.Seq.{drop-cons}
 use borrow.Author.Needs.{needs}
 use Rattle.decision.specs.State.{optionOf}
-use Rattle.decision.specs.Steps.{keepAll, steps-ebest}
-use Rattle.decision.proofs.ebest.Statement.{statement}
-use Rattle.decision.proofs.ebest.Tie as tie
+use Rattle.states.specs.Steps.{keepAll, steps-ebest}
+use Rattle.states.proofs.ebest.Statement.{statement}
+use Rattle.states.proofs.ebest.Tie as tie
 
 abbrev Inv-loop : tie.InvT-loop
 Inv-loop erbests held₀ i₀ held i =
