@@ -1,3 +1,5 @@
 -- The definitions and laws of the state decision.
 pub mod State
 pub mod Steps
+pub mod Reasons
+pub mod Lines
