@@ -1,13 +1,13 @@
 -- Without the agreement, choosing by ports and choosing at once can differ: paper 01's a, b, c.
 -- Assumes nothing.
 use mathlib.Core.Path.{_≡_, refl, sym, ap, _∙_}
-use mathlib.Core.Bool.{Bool, true, false}
+use mathlib.Core.Bool.{true, false}
 use mathlib.Core.List.{List, [], _∷_}
 use mathlib.Core.Option.{some}
 use Prim.Native.Nat.{ℕ}
 use native.Mathlib.Omega.{arith}
 use Rattle.compare.specs.declared.DatasetOrdering.{DatasetOrdering}
-use Rattle.compare.specs.declared.DatasetOrdering.the-variants.{Better, Worse}
+use Rattle.compare.specs.declared.DatasetOrdering.the-variants.{Better}
 use Rattle.compare.specs.Order.{cmp, thenBy, isGreater}
 use Rattle.compare.specs.Dataset.{asOrdering, compareOf, mirror}
 use Rattle.compare.specs.Laws.{mirror-law}

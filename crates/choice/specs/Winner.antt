@@ -1,15 +1,15 @@
 -- Demand 3 of the choice: with and without the agreement.
 -- Assumes nothing.
 use mathlib.Core.Path.{_≡_, refl, sym, ap, subst, _∙_}
-use mathlib.Core.Bool.{Bool, true, false}
+use mathlib.Core.Bool.{Bool, false}
 use mathlib.Core.List.{List, List·Memᴰ, map}
-use mathlib.Core.Option.{Option, some}
+use mathlib.Core.Option.{some}
 use Rattle.compare.specs.declared.Ordering.{Ordering}
 use Rattle.compare.specs.declared.Ordering.the-variants.{Less, Equal, Greater}
 use Rattle.compare.specs.Order.{cmp, thenBy, isGreater}
 use Rattle.compare.specs.Dataset.{asOrdering, compareOf, ranksAbove}
 use Rattle.choice.specs.declared.Candidate.{Candidate}
-use Rattle.choice.specs.Choice.{choose, joined, All, AllOf}
+use Rattle.choice.specs.Choice.{joined, All, AllOf}
 use Rattle.choice.specs.Candidate.{datasetOf, ranking, stays, itself, staysBy, winner, erbests, ebest, single}
 use Rattle.choice.specs.Agreement.{Agreeing}
 use Rattle.choice.specs.Chosen.{all-in, all-at, weak-by, choose-once, choose-agree, choose-has, choose-top, choose-map, mapOption, Last, choose-last}
@@ -67,3 +67,8 @@ module _ {A : Type 0} (shown : A → Candidate) (ports : List (List A)) (a : Agr
   pub ebest-none-above : (w : A) → ebest shown ports ≡ some w → (x : A) → List·Memᴰ x (joined ports) → ranksAbove (compareOf (datasetOf (shown x)) (datasetOf (shown w))) ≡ false
   unfolding single
   ebest-none-above w e x m = none-above a w (choosing-once ∙ e) x m
+
+  -- Of the calls: the single choice over the candidates of all ports answers the candidate of Ebest.
+  pub once-shown : winner itself (map shown (joined ports)) ≡ mapOption shown (ebest shown ports)
+  unfolding single
+  once-shown = winner-shown shown (joined ports) ∙ ap (mapOption shown) choosing-once

@@ -1,13 +1,12 @@
 -- The line of paper 01, "On both sides of a line", that speaks of our clock class and is marked (P).
 -- Assumes nothing.
-use mathlib.Core.Path.{_≡_, sym, _∙_}
-use mathlib.Core.Bool.{Bool, true, false, cond}
+use mathlib.Core.Path.{_≡_}
+use mathlib.Core.Bool.{Bool, true, false}
 use mathlib.Core.Option.{Option}
 use native.Mathlib.Omega.{arith}
 use Rattle.compare.specs.declared.InternalDefaultDS.{InternalDefaultDS}
 use Rattle.choice.specs.declared.BestAnnounceMessage.{BestAnnounceMessage}
-use Rattle.decision.specs.declared.RecommendedState.the-variants.{Stay}
-use Rattle.decision.specs.State.{lowClass, highClass, low, stays, stateOf}
+use Rattle.decision.specs.State.{highClass, low, stays, stateOf}
 use Rattle.decision.specs.Steps.{low-below, low-above, low-within}
 
 -- Erbest alone is read: the state is the same whatever Ebest is

@@ -1,7 +1,7 @@
 -- Why a port is recommended a state: one reason for each way through the crate's text, with what the state carries.
 -- Assumes nothing.
 use mathlib.Core.Path.{_≡_, refl, sym, subst, _∙_}
-use mathlib.Core.Bool.{Bool, true, false, cond, _&&_, false≢true}
+use mathlib.Core.Bool.{Bool, true, false, _&&_, false≢true}
 use mathlib.Core.Option.{Option, none, some}
 use lib.Dec.{eqb}
 use borrow.Author.Tests.{eqb-true, eq-eqb}
@@ -11,7 +11,7 @@ use Rattle.compare.specs.declared.Ordering.the-variants.{Less, Equal, Greater}
 use Rattle.compare.specs.Order.{isLess}
 use Rattle.compare.specs.Dataset.{ofOwn, compareOf, asOrdering, isByTopology}
 use Rattle.choice.specs.declared.BestAnnounceMessage.{BestAnnounceMessage}
-use Rattle.same.specs.Same.{samePort, sameMessage, same-port-eq, same-port-refl, same-message-eq, same-message-refl}
+use Rattle.same.specs.Same.{samePort, same-port-eq, same-port-refl, same-message-eq, same-message-refl}
 use Rattle.decision.specs.declared.RecommendedState.{RecommendedState}
 use Rattle.decision.specs.declared.RecommendedState.the-variants.{Stay, M1, M2, M3, P1, P2, S1}
 use Rattle.decision.specs.State.{setOf, sameBest, comparedBy, compareD0, lowBy, againstPort, highBy, low, stays, stateOf}

@@ -1,10 +1,8 @@
 -- The state decision: what each port is to do, after bmca.rs and figure 33 of IEEE 1588-2019.
 -- Assumes nothing.
-use mathlib.Core.Bool.{Bool, true, false, cond, _&&_}
+use mathlib.Core.Bool.{Bool, false, cond, _&&_}
 use mathlib.Core.Option.{Option, none, some}
-use Prim.Native.Nat.{ℕ}
 use lib.Dec.{leb, eqb}
-use Rattle.announce.specs.declared.AnnounceMessage.{AnnounceMessage}
 use Rattle.compare.specs.declared.ComparisonDataset.{ComparisonDataset}
 use Rattle.compare.specs.declared.InternalDefaultDS.{InternalDefaultDS}
 use Rattle.compare.specs.declared.Ordering.{Ordering}
@@ -83,27 +81,3 @@ stays listening (some p) = false
 
 unfoldable pub stateOf : InternalDefaultDS → Option BestAnnounceMessage → Option BestAnnounceMessage → Bool → RecommendedState
 stateOf own g p listening = cond (stays listening p) Stay (byClass own g p)
-
--- the paper's number of a state, and what it carries
-abbrev pub numberOf : RecommendedState → ℕ
-numberOf Stay = 0
-numberOf (M1 own) = 1
-numberOf (M2 own) = 2
-numberOf (M3 m) = 3
-numberOf (P1 m) = 4
-numberOf (P2 m) = 5
-numberOf (S1 m) = 6
-
-pub data Carried : Type 0 where
-  nothing : Carried
-  ownData : InternalDefaultDS → Carried
-  message : AnnounceMessage → Carried
-
-abbrev pub carried : RecommendedState → Carried
-carried Stay = nothing
-carried (M1 own) = ownData own
-carried (M2 own) = ownData own
-carried (M3 m) = message m
-carried (P1 m) = message m
-carried (P2 m) = message m
-carried (S1 m) = message m

@@ -6,7 +6,8 @@ use compare::DatasetOrdering;
 use compare::InternalDefaultDS;
 use compare::Ordering;
 ghost use mathlib.Core.Path.{_≡_};
-ghost use Rattle.decision.specs.State.{optionOf, sameBest, compareD0, globalAndPort, lowClass, highClass, byClass, stateOf, numberOf};
+ghost use Rattle.decision.specs.State.{optionOf, sameBest, compareD0, globalAndPort, lowClass, highClass, byClass, stateOf};
+ghost use Rattle.decision.specs.Answer.{numberOf};
 
 // Ebest or Erbest, if there is one.
 pub enum BestMessage {

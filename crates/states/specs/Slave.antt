@@ -1,7 +1,7 @@
 -- Demand 3 of the state decision: to which port S1 is recommended, with or without the agreement.
 -- Assumes nothing.
 use mathlib.Core.Path.{_≡_, refl, sym, ap, ap₂, subst, _∙_}
-use mathlib.Core.Bool.{Bool, true, false, cond, not, _&&_, false≢true}
+use mathlib.Core.Bool.{Bool, true, false, cond, not, _&&_}
 use mathlib.Core.List.{List, [], _∷_, map, List·Memᴰ, List·Memᴰ·head, List·Memᴰ·tail, List·Memᴰ·not-nil}
 use mathlib.Core.Option.{Option, none, some, Option·none-ne-some, Option·some-injective}
 use Prim.Native.Nat.{ℕ, suc, _≤_, _<_, _+_}
@@ -197,7 +197,7 @@ abbrev pub Received : ℕ → List (List BestAnnounceMessage) → Type 0
 Received k [] = Unit
 Received k (bs ∷ ports) = All (λ b. b .identity .«port_number» ≡ k) bs × Received (suc k) ports
 
-pub ported : (k : ℕ) (ports : List (List BestAnnounceMessage)) → Received k ports → Ported k (erbests whole ports)
+ported : (k : ℕ) (ports : List (List BestAnnounceMessage)) → Received k ports → Ported k (erbests whole ports)
 unfolding erbests winner
 ported k [] r = tt
 ported k (bs ∷ ports) r = (choose-has (λ b. b .identity .«port_number» ≡ k) (staysBy whole) bs (r .0), ported (suc k) ports (r .1))
@@ -211,8 +211,19 @@ isEmpty [] = true
 isEmpty (x ∷ xs) = false
 
 -- There is a winner exactly when some port has a candidate.
-pub winner-there : (ports : List (List BestAnnounceMessage)) → isNone (ebestOf (erbests whole ports)) ≡ isEmpty (joined ports)
-unfolding ebestOf erbests winner choose
+pub winner-there : (ports : List (List BestAnnounceMessage)) → isNone (ebest whole ports) ≡ isEmpty (joined ports)
+unfolding ebest erbests winner choose
 winner-there [] = refl
 winner-there ([] ∷ ports) = winner-there ports
 winner-there ((b ∷ bs) ∷ ports) = refl
+
+-- So of a decision by the candidates of the ports: S1 goes to exactly one port, the receiver of the winner, when our class lies
+-- outside 1 to 127, some port has a candidate and our own data ranks below the winner; else to none.
+module _ (own : InternalDefaultDS) (listening : ℕ) (ports : List (List BestAnnounceMessage)) (r : Received 1 ports) where
+  pub decision-flags : flags (decisionOf own listening ports) ≡ flagsFrom (slavePort own (ebest whole ports)) 1 (erbests whole ports)
+  unfolding ebest ebestOf
+  decision-flags = s1-flags own listening (erbests whole ports) (ported 1 ports r)
+
+  pub decision-count : ones (flags (decisionOf own listening ports)) ≡ cond (recommendsS1 own (ebest whole ports)) 1 0
+  unfolding ebest ebestOf
+  decision-count = s1-count own listening (erbests whole ports) (ported 1 ports r)

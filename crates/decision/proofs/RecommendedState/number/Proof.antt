@@ -1,7 +1,7 @@
 -- `number` meets its contract: each case its number.
 -- Assumes nothing.
 use mathlib.Core.Path.{sym, ap}
-use Rattle.decision.specs.State.{numberOf}
+use Rattle.decision.specs.Answer.{numberOf}
 use borrow.Author.Needs.{needs}
 use Rattle.decision.proofs.RecommendedState.number.Statement.{statement}
 use Rattle.decision.proofs.RecommendedState.number.Tie as tie
