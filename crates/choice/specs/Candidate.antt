@@ -5,8 +5,8 @@ use mathlib.Core.List.{List, [], _∷_, map}
 use mathlib.Core.Option.{Option, none, some}
 use Prim.Native.Nat.{ℕ}
 use Rattle.compare.specs.declared.ComparisonDataset.{ComparisonDataset}
-use Rattle.compare.specs.declared.Ordering.{Ordering}
-use Rattle.compare.specs.Order.{cmp, thenBy, isGreater}
+use Rattle.order.specs.declared.Ordering.{Ordering}
+use Rattle.order.specs.Order.{cmp, thenBy, isGreater}
 use Rattle.compare.specs.Dataset.{compareOf, asOrdering}
 use Rattle.choice.specs.declared.BestAnnounceMessage.{BestAnnounceMessage}
 use Rattle.choice.specs.declared.Candidate.{Candidate}

@@ -8,7 +8,7 @@ use Prim.Native.Nat.{ℕ}
 use native.Mathlib.Omega.{arith}
 use Rattle.compare.specs.declared.DatasetOrdering.{DatasetOrdering}
 use Rattle.compare.specs.declared.DatasetOrdering.the-variants.{Better}
-use Rattle.compare.specs.Order.{cmp, thenBy, isGreater}
+use Rattle.order.specs.Order.{cmp, thenBy, isGreater}
 use Rattle.compare.specs.Dataset.{asOrdering, compareOf, mirror}
 use Rattle.compare.specs.Laws.{mirror-law}
 use Rattle.compare.specs.Lines.{Circular, circle}

@@ -8,11 +8,11 @@ use Prim.Native.Nat.{ℕ}
 use native.Mathlib.Omega.{arith}
 use native.Mathlib.Decide.{ℕ-discrete}
 use Rattle.compare.specs.declared.ComparisonDataset.{ComparisonDataset}
-use Rattle.compare.specs.declared.Ordering.{Ordering}
-use Rattle.compare.specs.declared.Ordering.the-variants.{Less, Equal, Greater}
-use Rattle.compare.specs.Order.{cmp, thenBy, lex, flip, isLess, isGreater}
+use Rattle.order.specs.declared.Ordering.{Ordering}
+use Rattle.order.specs.declared.Ordering.the-variants.{Less, Equal, Greater}
+use Rattle.order.specs.Order.{cmp, thenBy, lex, flip, isLess, isGreater}
 use Rattle.compare.specs.Dataset.{byQuality, byTopology, nearerBy, fartherBy, qualityRow, topologyRow, figure34, figure35, asOrdering}
-use Rattle.compare.specs.Rows.{Stand, Two, lt, eq, gt, two, cmp-less, cmp-greater, cmp-equal, cmp-flip, stand-equal, stand-lex, stand-refl, stand, stand-flip, stand-trans, lex-flip, thenBy-assoc, thenBy-equal}
+use Rattle.order.specs.Rows.{Stand, Two, lt, eq, gt, two, cmp-less, cmp-greater, cmp-equal, cmp-flip, stand-equal, stand-lex, stand-refl, stand, stand-flip, stand-trans, lex-flip, thenBy-assoc, thenBy-equal}
 use Rattle.compare.specs.Laws.{same-grandmaster, other-grandmaster, far-above, far-below, above, below, level, Gap, gap, two-more, one-more, as-many, one-less, two-less}
 use Rattle.choice.specs.declared.Candidate.{Candidate}
 use Rattle.choice.specs.Candidate.{datasetOf, ranking, stays}

@@ -4,9 +4,9 @@ use mathlib.Core.Path.{_≡_, refl, sym, ap, subst, _∙_}
 use mathlib.Core.Bool.{Bool, false}
 use mathlib.Core.List.{List, List·Memᴰ, map}
 use mathlib.Core.Option.{some}
-use Rattle.compare.specs.declared.Ordering.{Ordering}
-use Rattle.compare.specs.declared.Ordering.the-variants.{Less, Equal, Greater}
-use Rattle.compare.specs.Order.{cmp, thenBy, isGreater}
+use Rattle.order.specs.declared.Ordering.{Ordering}
+use Rattle.order.specs.declared.Ordering.the-variants.{Less, Equal, Greater}
+use Rattle.order.specs.Order.{cmp, thenBy, isGreater}
 use Rattle.compare.specs.Dataset.{asOrdering, compareOf, ranksAbove}
 use Rattle.choice.specs.declared.Candidate.{Candidate}
 use Rattle.choice.specs.Choice.{joined, All, AllOf}

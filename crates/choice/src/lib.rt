@@ -3,8 +3,8 @@ use announce::AnnounceMessage;
 use announce::ClockQuality;
 use compare::ComparisonDataset;
 use compare::DatasetOrdering;
-use compare::Ordering;
 use header::PortIdentity;
+use order::Ordering;
 ghost use mathlib.Core.Path.{_≡_};
 ghost use Prim.Native.Nat.{_≤_};
 ghost use lib.ListN.{take};
@@ -99,7 +99,7 @@ impl Candidate {
     pub fn compare(self, other: Candidate) -> Ordering
         ensures { λ r. ⌜ r ≡ ranking self other ⌝ }
     {
-        let tie_break = compare::cmp(other.age, self.age);
+        let tie_break = order::cmp(other.age, self.age);
         self.compare_dataset(other).as_ordering().then(tie_break)
     }
 

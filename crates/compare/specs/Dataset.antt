@@ -6,13 +6,13 @@ use Prim.Native.Nat.{ℕ, _+_}
 use lib.Dec.{ltb, eqb}
 use Rattle.header.specs.declared.PortIdentity.{PortIdentity}
 use Rattle.announce.specs.declared.AnnounceMessage.{AnnounceMessage}
-use Rattle.compare.specs.declared.Ordering.{Ordering}
-use Rattle.compare.specs.declared.Ordering.the-variants.{Less, Equal, Greater}
+use Rattle.order.specs.declared.Ordering.{Ordering}
+use Rattle.order.specs.declared.Ordering.the-variants.{Less, Equal, Greater}
 use Rattle.compare.specs.declared.DatasetOrdering.{DatasetOrdering}
 use Rattle.compare.specs.declared.DatasetOrdering.the-variants.{Better, BetterByTopology, Error1, Error2, WorseByTopology, Worse}
 use Rattle.compare.specs.declared.ComparisonDataset.{ComparisonDataset}
 use Rattle.compare.specs.declared.InternalDefaultDS.{InternalDefaultDS}
-use Rattle.compare.specs.Order.{cmp, lex, isGreater}
+use Rattle.order.specs.Order.{cmp, lex, isGreater}
 
 -- the set of an announce message, with the port that received it
 abbrev pub ofAnnounce : AnnounceMessage → PortIdentity → ComparisonDataset

@@ -7,11 +7,11 @@ use native.Mathlib.Decide.{decLt, ℕ-discrete}
 use borrow.Author.Tests.{lt-ltb, le-ltb, eq-eqb, ne-eqb}
 use Rattle.compare.specs.declared.DatasetOrdering.the-variants.{Better, Worse}
 use Rattle.compare.specs.declared.ComparisonDataset.{ComparisonDataset}
-use Rattle.compare.specs.declared.Ordering.{Ordering}
-use Rattle.compare.specs.declared.Ordering.the-variants.{Less, Equal, Greater}
-use Rattle.compare.specs.Order.{cmp, lex, flip}
+use Rattle.order.specs.declared.Ordering.{Ordering}
+use Rattle.order.specs.declared.Ordering.the-variants.{Less, Equal, Greater}
+use Rattle.order.specs.Order.{cmp, lex, flip}
 use Rattle.compare.specs.Dataset.{byQuality, byTopology, nearerBy, fartherBy, qualityRow, topologyRow, near, figure34, figure35, compareOf, mirror}
-use Rattle.compare.specs.Rows.{Two, lt, eq, gt, two, cmp-less, cmp-greater, cmp-equal, lex-flip}
+use Rattle.order.specs.Rows.{Two, lt, eq, gt, two, cmp-less, cmp-greater, cmp-equal, lex-flip}
 
 module _ (a b : ComparisonDataset) where
   pub same-grandmaster : a .«gm_identity» ≡ b .«gm_identity» → compareOf a b ≡ figure35 a b

@@ -5,9 +5,9 @@ use Prim.Native.Nat.{_+_, _<_}
 use native.Mathlib.Omega.{arith}
 use Rattle.compare.specs.declared.ComparisonDataset.{ComparisonDataset}
 use Rattle.compare.specs.declared.DatasetOrdering.the-variants.{Better, Error1}
-use Rattle.compare.specs.declared.Ordering.the-variants.{Less}
+use Rattle.order.specs.declared.Ordering.the-variants.{Less}
 use Rattle.compare.specs.Dataset.{byQuality, nearerBy, figure34, compareOf}
-use Rattle.compare.specs.Rows.{cmp-equal, decided, lower}
+use Rattle.order.specs.Rows.{cmp-equal, decided, lower}
 use Rattle.compare.specs.Laws.{same-grandmaster, other-grandmaster, far-below, below}
 
 -- Sender equal to receiver, one grandmaster: steps 1 against 2 and 2 against 3 are Error1, 1 against 3 Better.

@@ -2,51 +2,10 @@
 use announce::AnnounceMessage;
 use announce::ClockQuality;
 use header::PortIdentity;
+use order::Ordering;
 ghost use mathlib.Core.Path.{_≡_};
-ghost use Rattle.compare.specs.Order.{cmp, thenBy, lex, isGreater};
+ghost use Rattle.order.specs.Order.{cmp, lex};
 ghost use Rattle.compare.specs.Dataset.{ofAnnounce, ofOwn, byTopology, nearerBy, fartherBy, topologyRow, figure34, figure35, compareOf, asOrdering, ranksAbove, isByTopology};
-
-// How two sides stand.
-pub enum Ordering {
-    Less,
-    Equal,
-    Greater,
-}
-
-impl Ordering {
-    // The first that differs decides.
-    pub fn then(self, next: Ordering) -> Ordering
-        ensures { λ r. ⌜ r ≡ thenBy self next ⌝ }
-    {
-        match self {
-            Ordering::Less => Ordering::Less,
-            Ordering::Equal => next,
-            Ordering::Greater => Ordering::Greater,
-        }
-    }
-
-    pub fn is_greater(self) -> bool
-        ensures { λ r. ⌜ r ≡ isGreater self ⌝ }
-    {
-        match self {
-            Ordering::Less => false,
-            Ordering::Equal => false,
-            Ordering::Greater => true,
-        }
-    }
-}
-
-pub fn cmp(a: u64, b: u64) -> Ordering
-    ensures { λ r. ⌜ r ≡ cmp a b ⌝ }
-{
-    if a < b {
-        return Ordering::Less;
-    }
-    if b < a {
-        return Ordering::Greater;
-    }
-    Ordering::Equal
-}
 
 // The verdict on the left side of a comparison.
 pub enum DatasetOrdering {
@@ -265,8 +224,8 @@ impl ComparisonDataset {
     {
         let here = self.identity_of_receiver;
         let there = other.identity_of_receiver;
-        let senders = cmp(self.identity_of_senders, other.identity_of_senders);
-        let receivers = cmp(here.port_number as u64, there.port_number as u64);
+        let senders = order::cmp(self.identity_of_senders, other.identity_of_senders);
+        let receivers = order::cmp(here.port_number as u64, there.port_number as u64);
         match senders.then(receivers) {
             Ordering::Less => DatasetOrdering::BetterByTopology,
             Ordering::Equal => DatasetOrdering::Error2,
@@ -279,7 +238,7 @@ impl ComparisonDataset {
 fn farther(receiver: u64, sender: u64) -> DatasetOrdering
     ensures { λ r. ⌜ r ≡ fartherBy (cmp receiver sender) ⌝ }
 {
-    match cmp(receiver, sender) {
+    match order::cmp(receiver, sender) {
         Ordering::Less => DatasetOrdering::Worse,
         Ordering::Equal => DatasetOrdering::Error1,
         Ordering::Greater => DatasetOrdering::WorseByTopology,
@@ -290,7 +249,7 @@ fn farther(receiver: u64, sender: u64) -> DatasetOrdering
 fn nearer(receiver: u64, sender: u64) -> DatasetOrdering
     ensures { λ r. ⌜ r ≡ nearerBy (cmp receiver sender) ⌝ }
 {
-    match cmp(receiver, sender) {
+    match order::cmp(receiver, sender) {
         Ordering::Less => DatasetOrdering::Better,
         Ordering::Equal => DatasetOrdering::Error1,
         Ordering::Greater => DatasetOrdering::BetterByTopology,

@@ -6,9 +6,9 @@ use mathlib.Core.Option.{Option, none, some}
 use lib.Dec.{eqb}
 use borrow.Author.Tests.{eqb-true, eq-eqb}
 use Rattle.compare.specs.declared.InternalDefaultDS.{InternalDefaultDS}
-use Rattle.compare.specs.declared.Ordering.{Ordering}
-use Rattle.compare.specs.declared.Ordering.the-variants.{Less, Equal, Greater}
-use Rattle.compare.specs.Order.{isLess}
+use Rattle.order.specs.declared.Ordering.{Ordering}
+use Rattle.order.specs.declared.Ordering.the-variants.{Less, Equal, Greater}
+use Rattle.order.specs.Order.{isLess}
 use Rattle.compare.specs.Dataset.{ofOwn, compareOf, asOrdering, isByTopology}
 use Rattle.choice.specs.declared.BestAnnounceMessage.{BestAnnounceMessage}
 use Rattle.same.specs.Same.{samePort, same-port-eq, same-port-refl, same-message-eq, same-message-refl}

@@ -5,8 +5,8 @@ use mathlib.Core.Option.{Option, none, some}
 use lib.Dec.{leb, eqb}
 use Rattle.compare.specs.declared.ComparisonDataset.{ComparisonDataset}
 use Rattle.compare.specs.declared.InternalDefaultDS.{InternalDefaultDS}
-use Rattle.compare.specs.declared.Ordering.{Ordering}
-use Rattle.compare.specs.declared.Ordering.the-variants.{Less, Equal, Greater}
+use Rattle.order.specs.declared.Ordering.{Ordering}
+use Rattle.order.specs.declared.Ordering.the-variants.{Less, Equal, Greater}
 use Rattle.compare.specs.Dataset.{ofAnnounce, ofOwn, compareOf, asOrdering, isByTopology}
 use Rattle.choice.specs.declared.BestAnnounceMessage.{BestAnnounceMessage}
 use Rattle.same.specs.Same.{samePort, sameMessage}

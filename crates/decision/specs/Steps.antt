@@ -8,7 +8,7 @@ use native.Mathlib.Omega.{arith}
 use borrow.Author.Tests.{le-leb, lt-leb, eq-eqb, ne-eqb}
 use Rattle.compare.specs.declared.ComparisonDataset.{ComparisonDataset}
 use Rattle.compare.specs.declared.InternalDefaultDS.{InternalDefaultDS}
-use Rattle.compare.specs.declared.Ordering.{Ordering}
+use Rattle.order.specs.declared.Ordering.{Ordering}
 use Rattle.compare.specs.Dataset.{compareOf, asOrdering, isByTopology}
 use Rattle.choice.specs.declared.BestAnnounceMessage.{BestAnnounceMessage}
 use Rattle.same.specs.Same.{samePort, sameMessage}

@@ -4,7 +4,7 @@ use choice::BestAnnounceMessage;
 use compare::ComparisonDataset;
 use compare::DatasetOrdering;
 use compare::InternalDefaultDS;
-use compare::Ordering;
+use order::Ordering;
 ghost use mathlib.Core.Path.{_≡_};
 ghost use Rattle.decision.specs.State.{optionOf, sameBest, compareD0, globalAndPort, lowClass, highClass, byClass, stateOf};
 ghost use Rattle.decision.specs.Answer.{numberOf};

@@ -2,7 +2,7 @@
 -- Assumes nothing.
 use mathlib.Core.Path.{ap, ap₂, _∙_}
 use borrow.Author.Needs.{needs}
-use Rattle.compare.specs.Order.{thenBy}
+use Rattle.order.specs.Order.{thenBy}
 use Rattle.compare.specs.Dataset.{asOrdering}
 use Rattle.choice.specs.Candidate.{ranking}
 use Rattle.choice.proofs.Candidate.compare.Statement.{statement}

@@ -2,7 +2,7 @@
 -- Assumes nothing.
 use mathlib.Core.Path.{ap, _∙_}
 use borrow.Author.Needs.{needs}
-use Rattle.compare.specs.Order.{isGreater}
+use Rattle.order.specs.Order.{isGreater}
 use Rattle.choice.specs.Candidate.{stays}
 use Rattle.choice.proofs.Candidate.stays.Statement.{statement}
 use Rattle.choice.proofs.Candidate.stays.Tie as tie

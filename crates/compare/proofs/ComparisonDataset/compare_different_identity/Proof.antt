@@ -1,7 +1,7 @@
 -- `compare_different_identity` meets its contract: each return has the tests that led there, and `search stands` finds them.
 -- Assumes nothing.
-use Rattle.compare.specs.declared.Ordering.the-variants.{Less, Equal, Greater}
-use Rattle.compare.specs.Rows.{decided, stands}
+use Rattle.order.specs.declared.Ordering.the-variants.{Less, Equal, Greater}
+use Rattle.order.specs.Rows.{decided, stands}
 use Rattle.compare.specs.Dataset.{figure34, byQuality}
 use Rattle.compare.proofs.ComparisonDataset.compare_different_identity.Statement.{
   statement,

@@ -2,9 +2,9 @@
 -- Assumes nothing.
 use mathlib.Core.Path.{sym, ap, ap₂, _∙_}
 use borrow.Author.Needs.{needs}
-use Rattle.compare.specs.Order.{thenBy}
+use Rattle.order.specs.Order.{thenBy}
 use Rattle.compare.specs.Dataset.{byTopology}
-use Rattle.compare.specs.Rows.{lex-two}
+use Rattle.order.specs.Rows.{lex-two}
 use Rattle.compare.proofs.ComparisonDataset.compare_topology.Statement.{statement}
 use Rattle.compare.proofs.ComparisonDataset.compare_topology.Tie as tie
 

@@ -1,8 +1,8 @@
 -- `cmp` meets its contract: each return has the tests that led there.
 -- Assumes nothing.
-use Rattle.compare.specs.Rows.{cmp-less, cmp-greater, cmp-equal}
-use Rattle.compare.proofs.cmp.Statement.{statement}
-use Rattle.compare.proofs.cmp.Tie as tie
+use Rattle.order.specs.Rows.{cmp-less, cmp-greater, cmp-equal}
+use Rattle.order.proofs.cmp.Statement.{statement}
+use Rattle.order.proofs.cmp.Tie as tie
 
 pub cmp-spec : {M : Type 1} → statement M
 cmp-spec =

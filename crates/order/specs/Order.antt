@@ -4,8 +4,8 @@ use mathlib.Core.Bool.{Bool, true, false}
 use mathlib.Core.List.{List, [], _∷_}
 use Prim.Native.Nat.{ℕ}
 use lib.Dec.{ltb}
-use Rattle.compare.specs.declared.Ordering.{Ordering}
-use Rattle.compare.specs.declared.Ordering.the-variants.{Less, Equal, Greater}
+use Rattle.order.specs.declared.Ordering.{Ordering}
+use Rattle.order.specs.declared.Ordering.the-variants.{Less, Equal, Greater}
 
 -- from the two tests a < b and b < a
 abbrev pub three : Bool → Bool → Ordering

@@ -8,9 +8,9 @@ use native.Mathlib.Nat.{le-of-lt, le-antisymm, le-trans, lt-trans, lt-of-lt-of-l
 use native.Mathlib.Omega.{arith}
 use native.Mathlib.Decide.{decLt}
 use borrow.Author.Tests.{lt-ltb, le-ltb}
-use Rattle.compare.specs.declared.Ordering.{Ordering}
-use Rattle.compare.specs.declared.Ordering.the-variants.{Less, Equal, Greater}
-use Rattle.compare.specs.Order.{cmp, thenBy, lex, flip}
+use Rattle.order.specs.declared.Ordering.{Ordering}
+use Rattle.order.specs.declared.Ordering.the-variants.{Less, Equal, Greater}
+use Rattle.order.specs.Order.{cmp, thenBy, lex, flip}
 
 pub cmp-less : (a b : ℕ) → a < b → cmp a b ≡ Less
 unfolding cmp
