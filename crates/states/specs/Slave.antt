@@ -137,7 +137,8 @@ all-of : {A : Type 0} (P Q : A → Type 0) → ((a : A) → P a → Q a) → (o 
 all-of P Q f none p = tt
 all-of P Q f (some a) p = f a p
 
-abbrev flags : List PortAnswer → List Bool
+-- one flag a port: is it recommended S1?
+abbrev pub flags : List PortAnswer → List Bool
 flags answers = map (λ (a : PortAnswer). isS1 (a .state)) answers
 
 answers-s1 :
@@ -202,11 +203,11 @@ unfolding erbests winner
 ported k [] r = tt
 ported k (bs ∷ ports) r = (choose-has (λ b. b .identity .«port_number» ≡ k) (staysBy whole) bs (r .0), ported (suc k) ports (r .1))
 
-abbrev isNone : {A : Type 0} → Option A → Bool
+abbrev pub isNone : {A : Type 0} → Option A → Bool
 isNone none = true
 isNone (some x) = false
 
-abbrev isEmpty : {A : Type 0} → List A → Bool
+abbrev pub isEmpty : {A : Type 0} → List A → Bool
 isEmpty [] = true
 isEmpty (x ∷ xs) = false
 
