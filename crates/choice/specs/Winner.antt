@@ -2,7 +2,7 @@
 -- Assumes nothing.
 use mathlib.Core.Path.{_≡_, refl, sym, ap, subst, _∙_}
 use mathlib.Core.Bool.{Bool, false}
-use mathlib.Core.List.{List, List·Memᴰ, map}
+use mathlib.Core.List.{List, _∷_, List·Memᴰ, List·Memᴰ·head, List·Memᴰ·tail, Memᴰ·append-left, Memᴰ·append-right, map}
 use mathlib.Core.Option.{some}
 use Rattle.order.specs.declared.Ordering.{Ordering}
 use Rattle.order.specs.declared.Ordering.the-variants.{Less, Equal, Greater}
@@ -57,13 +57,29 @@ module _ {A : Type 0} {shown : A → Candidate} {xs : List A} (a : Agreeing show
       first Equal p n = refl
       first Greater p n = n
 
+-- a candidate of a port is one of all
+in-joined : {A : Type 0} (x : A) (xs : List A) (ports : List (List A)) → List·Memᴰ xs ports → List·Memᴰ x xs → List·Memᴰ x (joined ports)
+in-joined x xs (ys ∷ ports) (List·Memᴰ·head e) m = Memᴰ·append-left (joined ports) (subst (λ zs. List·Memᴰ x zs) e m)
+in-joined x xs (ys ∷ ports) (List·Memᴰ·tail n) m = Memᴰ·append-right ys (in-joined x xs ports n m)
+
 module _ {A : Type 0} (shown : A → Candidate) (ports : List (List A)) (a : Agreeing shown (joined ports)) where
   -- A winner per port and a winner among those is the winner of a single choice over all, in the same order.
   pub choosing-once : single shown ports ≡ ebest shown ports
   unfolding single ebest erbests winner
   choosing-once = choose-once (stays-above a) (weak-by shown row-weak) ports (all-in (joined ports) (λ x m. m))
 
-  -- So no candidate of any port ranks above Ebest.
+  -- No candidate of a port ranks above its Erbest,
+  pub erbest-none-above :
+      (xs : List A) → List·Memᴰ xs ports → (w : A) → winner shown xs ≡ some w → (x : A) → List·Memᴰ x xs
+      → ranksAbove (compareOf (datasetOf (shown x)) (datasetOf (shown w))) ≡ false
+  erbest-none-above xs n =
+      none-above
+      (record {
+        foreign = λ x m. a .foreign x (in-joined x xs ports n m);
+        agree = λ x y m k. a .agree x y (in-joined x xs ports n m) (in-joined y xs ports n k);
+      })
+
+  -- and none of any port above Ebest.
   pub ebest-none-above : (w : A) → ebest shown ports ≡ some w → (x : A) → List·Memᴰ x (joined ports) → ranksAbove (compareOf (datasetOf (shown x)) (datasetOf (shown w))) ≡ false
   unfolding single
   ebest-none-above w e x m = none-above a w (choosing-once ∙ e) x m
