@@ -1,6 +1,6 @@
 // The subcommand frames: frames of many kinds, the same for the same seed.
 
-use std::io::{Error, Write};
+use crate::random::Random;
 
 /// Lengths at and beside the ends of a header and of an announce.
 pub const EDGES: [usize; 6] = [33, 34, 35, 63, 64, 65];
@@ -31,27 +31,16 @@ const NUMBERS: [(usize, usize); 16] = [
 /// The place of an announce's clock accuracy.
 const ACCURACY: usize = 49;
 
-/// Writes the frames of a maker of frames, a line each.
-pub fn run(
-    frame: fn(u64, &mut Random) -> Vec<u8>,
-    seed: u64,
-    count: u64,
-    output: &mut impl Write,
-) -> Result<(), Error> {
-    let mut random = Random(seed);
-    for index in 0..count {
-        let mut frame = frame(index, &mut random);
-        if let Some(byte) = frame.get_mut(ACCURACY) {
-            *byte = unfolded(*byte);
-        }
-        let digits: String = frame.iter().map(|byte| format!("{byte:02X}")).collect();
-        writeln!(output, "{digits}")?;
+/// A frame with an accuracy that the crate keeps.
+pub fn kept(mut frame: Vec<u8>) -> Vec<u8> {
+    if let Some(byte) = frame.get_mut(ACCURACY) {
+        *byte = unfolded(*byte);
     }
-    Ok(())
+    frame
 }
 
 /// An accuracy that the crate keeps: it reads the reserved 01-16, 32-7F and FF as 00.
-fn unfolded(byte: u8) -> u8 {
+pub fn unfolded(byte: u8) -> u8 {
     match byte {
         0x00 | 0x17..=0x31 | 0x80..=0xfe => byte,
         _ => (byte | 0x80).min(0xfe),
@@ -178,33 +167,4 @@ pub fn set_type(frame: &mut [u8], message_type: u8) {
 
 pub fn set_length(frame: &mut [u8], length: u16) {
     frame[2..4].copy_from_slice(&length.to_be_bytes());
-}
-
-/// The generator splitmix64.
-pub struct Random(u64);
-
-impl Random {
-    pub fn next(&mut self) -> u64 {
-        self.0 = self.0.wrapping_add(0x9e37_79b9_7f4a_7c15);
-        let mut value = self.0;
-        value = (value ^ (value >> 30)).wrapping_mul(0xbf58_476d_1ce4_e5b9);
-        value = (value ^ (value >> 27)).wrapping_mul(0x94d0_49bb_1331_11eb);
-        value ^ (value >> 31)
-    }
-
-    pub fn below(&mut self, limit: usize) -> usize {
-        (self.next() % limit as u64) as usize
-    }
-
-    pub fn byte(&mut self) -> u8 {
-        self.next() as u8
-    }
-
-    pub fn bytes(&mut self, count: usize) -> Vec<u8> {
-        (0..count).map(|_| self.byte()).collect()
-    }
-
-    pub fn of<T: Copy>(&mut self, choices: &[T]) -> T {
-        choices[self.below(choices.len())]
-    }
 }

@@ -1,13 +1,15 @@
-// Lines: frames in hexadecimal digits read from the input, and the tokens of the answers.
+// Lines: bytes in hexadecimal digits, read from the input and made; and the tokens of the answers.
 
+use crate::random::Random;
 use std::io::{BufRead, Error, ErrorKind, Write};
 
-/// The longest frame.
+/// The longest frame, and the most bytes of any line.
 pub const MAX_FRAME: usize = 2048;
 
-/// Answers every line of the input with a line of the output.
+/// Answers every line of the input, which holds one of what it is to hold, with a line of the output.
 pub fn run(
-    answer: fn(&[u8]) -> String,
+    what: &str,
+    answer: impl Fn(&[u8]) -> Option<String>,
     input: &mut impl BufRead,
     output: &mut impl Write,
 ) -> Result<(), Error> {
@@ -18,17 +20,34 @@ pub fn run(
             break;
         }
         let digits = line.strip_suffix(b"\n").unwrap_or(&line);
-        let Some(frame) = frame_of(digits) else {
-            let text = format!("line {number}: no frame of 0 to {MAX_FRAME} bytes in hexadecimal");
+        let Some(text) = bytes_of(digits).and_then(|bytes| answer(&bytes)) else {
+            let wanted = format!("{what} of at most {MAX_FRAME} bytes in hexadecimal");
+            let text = format!("line {number}: no {wanted}");
             return Err(Error::new(ErrorKind::InvalidData, text));
         };
-        writeln!(output, "{}", answer(&frame))?;
+        writeln!(output, "{text}")?;
+    }
+    Ok(())
+}
+
+/// Writes so many lines as they are made from a seed.
+pub fn make(
+    line: impl Fn(u64, &mut Random) -> Vec<u8>,
+    seed: u64,
+    count: u64,
+    output: &mut impl Write,
+) -> Result<(), Error> {
+    let mut random = Random::new(seed);
+    for index in 0..count {
+        let line = line(index, &mut random);
+        let digits: String = line.iter().map(|byte| format!("{byte:02X}")).collect();
+        writeln!(output, "{digits}")?;
     }
     Ok(())
 }
 
 /// The bytes that a line spells.
-fn frame_of(digits: &[u8]) -> Option<Vec<u8>> {
+fn bytes_of(digits: &[u8]) -> Option<Vec<u8>> {
     if digits.len() % 2 != 0 || digits.len() > 2 * MAX_FRAME {
         return None;
     }

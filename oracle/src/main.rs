@@ -1,36 +1,48 @@
 // The oracle: answers recorded inputs with the original source files of the crate statime 0.4.0.
 #![allow(dead_code, unused)]
 
+mod bmc;
+mod candidates;
 mod codec;
 mod config;
 mod datastructures;
+mod decision_lines;
+mod decisions;
 mod frames;
 mod kinds;
 mod lines;
 mod messages;
+mod port;
 mod ptp_instance;
+mod random;
+mod records;
+mod state_lines;
 mod time;
 mod tlv_frames;
 
+use random::Random;
 use std::fmt::Display;
-use std::io::{stdin, stdout, BufWriter, ErrorKind, Write};
+use std::io::{stdin, stdout, BufWriter, Error, ErrorKind, Write};
 use std::process::ExitCode;
 
 const HELP: &str = "\
-usage: oracle codec                  answer frames: header and announce
-       oracle messages               answer frames: messages with their TLVs
-       oracle kinds                  write what each number of a TLV type is
-       oracle frames SEED COUNT      write COUNT frames
-       oracle tlv-frames SEED COUNT  write COUNT frames with TLVs
-       oracle --help                 this text
+usage: oracle codec                      answer frames: header and announce
+       oracle messages                   answer frames: messages with their TLVs
+       oracle kinds                      write what each number of a TLV type is
+       oracle decisions                  answer comparisons, choices and decisions
+       oracle frames SEED COUNT          write COUNT frames
+       oracle tlv-frames SEED COUNT      write COUNT frames with TLVs
+       oracle decision-lines SEED COUNT  write COUNT lines for decisions
+       oracle --help                     this text
 
-codec and messages read standard input: each line a frame of 0 to 2,048 bytes in
-hexadecimal digits. They write a line for each.
+codec, messages and decisions read standard input: each line 0 to 2,048 bytes in
+hexadecimal digits, for codec and messages a frame. They write a line for each.
+All numbers are lower-case hexadecimal.
 
 codec: 01 (too few bytes) or 02 (unknown type), or 00, the header's fields and
 the header written again; for an announce then 01 (too few bytes), or 00, its
-fields and the content written again. All numbers are lower-case hexadecimal; a
-signed one has a token before it, 1 if negative.
+fields and the content written again. A signed number has a token before it, 1
+if negative.
 
 messages: 01 (too few bytes), 02 (unknown type), 03 (length field below 34), 04
 (odd TLV length) or 05 (no announce), or 00; then four tokens for each TLV: its
@@ -42,8 +54,31 @@ last, the code of their name, 1 if they are passed on, and 1 if the kind of a
 number has that number. The code of a name is its place in the enum TlvType from
 01 on, Reserved, Legacy and Experimental not counted: these are 00.
 
-frames and tlv-frames write the same for the same SEED. SEED and COUNT are
-decimal numbers below 2^64.
+decisions: the first byte of a line says what is asked.
+  00 SET SET                     the verdict on the first
+  01 OWN SET                     the verdict on our own data
+  02 CANDIDATE..                 the best candidate
+  03 OWN LISTENING CANDIDATE..   a decision over 8 ports
+  04 OWN LISTENS EBEST ERBEST    the recommended state of one port
+  OWN        identity (8 bytes), PROFILE
+  SET        PROFILE, grandmaster (8), steps removed (2), sender's identity (8),
+             receiver's identity (8) and port (2)
+  PROFILE    priority 1 (1), class (1), accuracy (1), variance (2), priority 2 (1)
+  CANDIDATE  SET, age (8, below 2^62); at most 48 of them
+  LISTENING  a byte, bit k-1 set if port k listens; LISTENS: 00 or 01
+  EBEST      00, or 01, an announce of 64 bytes, its age (8), the receiver's
+             identity (8) and port (2); ERBEST alike
+The candidates of a decision stand in the order of the ports, 1 to 8, that
+received them. The answer to 00 and 01 is the place of the verdict in the enum
+DatasetOrdering, to 02 the place of the best, from 00 on. A decision is answered
+with the best of all candidates, Ebest, and for each port Erbest, the number of
+its state (00 stay, 01 M1, 02 M2, 03 M3, 04 P1, 05 P2, 06 S1) and what tells
+which message or data that carries: the message's place as four digits, or our
+priority 1 and class. 04 is answered with the number of the state and all that
+it carries: OWN, or the message written again over zeros. - stands for none.
+
+frames, tlv-frames and decision-lines write the same for the same SEED. SEED and
+COUNT are decimal numbers below 2^64.
 
 exit: 0 done, 1 reading or writing failed, 2 bad usage or a line of another shape
 ";
@@ -57,23 +92,25 @@ fn main() -> ExitCode {
     let mut output = BufWriter::new(stdout().lock());
     let done = match args[..] {
         ["--help" | "-h"] => output.write_all(HELP.as_bytes()),
-        ["codec"] => lines::run(codec::answer, &mut stdin().lock(), &mut output),
-        ["messages"] => lines::run(messages::answer, &mut stdin().lock(), &mut output),
+        ["codec"] => answer("frame", |frame| Some(codec::answer(frame)), &mut output),
+        ["messages"] => answer("frame", |frame| Some(messages::answer(frame)), &mut output),
+        ["decisions"] => answer("question", decisions::answer, &mut output),
         ["kinds"] => kinds::run(&mut output),
-        [name @ ("frames" | "tlv-frames"), seed, count] => {
+        [name @ ("frames" | "tlv-frames" | "decision-lines"), seed, count] => {
             let (Ok(seed), Ok(count)) = (seed.parse(), count.parse()) else {
                 return bad_usage("SEED and COUNT are decimal numbers below 2^64");
             };
-            let frame = match name {
-                "frames" => frames::frame,
-                _ => tlv_frames::frame,
+            let line: fn(u64, &mut Random) -> Vec<u8> = match name {
+                "frames" => |index, random| frames::kept(frames::frame(index, random)),
+                "tlv-frames" => |index, random| frames::kept(tlv_frames::frame(index, random)),
+                _ => decision_lines::line,
             };
-            frames::run(frame, seed, count, &mut output)
+            lines::make(line, seed, count, &mut output)
         }
-        [name @ ("frames" | "tlv-frames"), ..] => {
+        [name @ ("frames" | "tlv-frames" | "decision-lines"), ..] => {
             return bad_usage(&format!("{name} takes SEED and COUNT"))
         }
-        [name @ ("codec" | "messages" | "kinds"), ..] => {
+        [name @ ("codec" | "messages" | "kinds" | "decisions"), ..] => {
             return bad_usage(&format!("{name} takes no arguments"))
         }
         [] => return bad_usage("no subcommand"),
@@ -84,6 +121,15 @@ fn main() -> ExitCode {
         Err(error) if error.kind() == ErrorKind::InvalidData => fail(2, error),
         Err(error) => fail(1, error),
     }
+}
+
+/// Answers the lines of standard input.
+fn answer(
+    what: &str,
+    answer: fn(&[u8]) -> Option<String>,
+    output: &mut impl Write,
+) -> Result<(), Error> {
+    lines::run(what, answer, &mut stdin().lock(), output)
 }
 
 fn bad_usage(text: &str) -> ExitCode {

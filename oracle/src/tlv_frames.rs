@@ -1,6 +1,7 @@
 // The subcommand tlv-frames: announces with TLVs and damaged ones, the same for the same seed.
 
-use crate::frames::{announce, flipped, set_length, set_type, Random, EDGES};
+use crate::frames::{announce, flipped, set_length, set_type, EDGES};
+use crate::random::Random;
 
 /// The size of an announce without TLVs.
 const ANNOUNCE_SIZE: usize = 64;

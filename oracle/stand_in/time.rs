@@ -2,6 +2,7 @@
 
 use crate::datastructures::common::TimeInterval;
 use fixed::types::{I48F16, I96F32};
+use std::ops::{AddAssign, Mul};
 
 /// A moment, in units of 2^-32 ns.
 #[derive(Debug, Clone, Copy, PartialEq, Eq, PartialOrd, Ord)]
@@ -26,8 +27,30 @@ impl Time {
 pub struct Duration(I96F32);
 
 impl Duration {
+    pub const ZERO: Self = Self(I96F32::from_bits(0));
+
     pub fn nanos(&self) -> I96F32 {
         self.0
+    }
+}
+
+impl From<TimeInterval> for Duration {
+    fn from(interval: TimeInterval) -> Self {
+        Self(I96F32::from_bits(i128::from(interval.0.to_bits()) << 16))
+    }
+}
+
+impl AddAssign for Duration {
+    fn add_assign(&mut self, other: Self) {
+        self.0 = I96F32::from_bits(self.0.to_bits() + other.0.to_bits());
+    }
+}
+
+impl Mul<u16> for Duration {
+    type Output = Self;
+
+    fn mul(self, times: u16) -> Self {
+        Self(I96F32::from_bits(self.0.to_bits() * i128::from(times)))
     }
 }
 

@@ -1,0 +1,121 @@
+// The subcommand decisions: the crate's verdicts, choices and recommended states.
+
+use crate::bmc::bmca::{BestAnnounceMessage, Bmca, RecommendedState};
+use crate::bmc::dataset_comparison::{ComparisonDataset, DatasetOrdering};
+use crate::datastructures::datasets::InternalDefaultDS;
+use crate::datastructures::messages::AnnounceMessage;
+use crate::lines::hex;
+use crate::port::state::PortState;
+use crate::records::{message_bytes, own_bytes, Rest};
+
+/// The ports of a decision.
+const PORTS: u16 = 8;
+
+/// What stands for none.
+const NONE: &str = "-";
+
+/// The answer to one line, if it has the shape of a question.
+pub fn answer(line: &[u8]) -> Option<String> {
+    let mut rest = Rest(line);
+    let answer = match rest.byte()? {
+        0 => verdict(rest.set()?.compare(&rest.set()?)),
+        1 => verdict(ComparisonDataset::from_own_data(&rest.own()?).compare(&rest.set()?)),
+        2 => place(&best_of(&rest.candidates()?)),
+        3 => decision(&rest.own()?, rest.byte()?, &rest.candidates()?)?,
+        4 => state(&rest.own()?, rest.flag()?, rest.option()?, rest.option()?),
+        _ => return None,
+    };
+    rest.0.is_empty().then_some(answer)
+}
+
+fn verdict(ordering: DatasetOrdering) -> String {
+    format!("{:02x}", ordering as u8)
+}
+
+fn best_of(candidates: &[BestAnnounceMessage]) -> Option<BestAnnounceMessage> {
+    Bmca::<()>::find_best_announce_message(candidates.iter().copied())
+}
+
+/// The place of a candidate in its line.
+fn place(candidate: &Option<BestAnnounceMessage>) -> String {
+    candidate.as_ref().map_or(NONE.to_string(), |best| {
+        format!("{:02x}", best.header.sequence_id)
+    })
+}
+
+/// The choice at once, Ebest, and for each port its Erbest and its recommended state. The
+/// candidates stand in the order of their ports.
+fn decision(
+    own: &InternalDefaultDS,
+    listening: u8,
+    candidates: &[BestAnnounceMessage],
+) -> Option<String> {
+    let port = |candidate: &BestAnnounceMessage| candidate.identity.port_number;
+    let known = |candidate: &BestAnnounceMessage| (1..=PORTS).contains(&port(candidate));
+    if !candidates.iter().all(known) || !candidates.is_sorted_by_key(port) {
+        return None;
+    }
+    let erbests: Vec<_> = candidates
+        .chunk_by(|first, second| port(first) == port(second))
+        .filter_map(best_of)
+        .collect();
+    let ebest = best_of(&erbests);
+    let mut tokens = vec![place(&best_of(candidates)), place(&ebest)];
+    for number in 1..=PORTS {
+        let erbest = erbests.iter().copied().find(|best| port(best) == number);
+        let listens = listening >> (number - 1) & 1 == 1;
+        tokens.push(place(&erbest));
+        tokens.push(told(
+            recommended(own, listens, ebest, erbest),
+            |own| hex(&[own.priority_1, own.clock_quality.clock_class]),
+            |message| format!("{:04x}", message.header.sequence_id),
+        ));
+    }
+    Some(tokens.join(" "))
+}
+
+/// The recommended state of one port, with all that it carries.
+fn state(
+    own: &InternalDefaultDS,
+    listens: bool,
+    ebest: Option<BestAnnounceMessage>,
+    erbest: Option<BestAnnounceMessage>,
+) -> String {
+    told(
+        recommended(own, listens, ebest, erbest),
+        |own| hex(&own_bytes(own)),
+        |message| hex(&message_bytes(message)),
+    )
+}
+
+fn recommended(
+    own: &InternalDefaultDS,
+    listens: bool,
+    ebest: Option<BestAnnounceMessage>,
+    erbest: Option<BestAnnounceMessage>,
+) -> Option<RecommendedState> {
+    let port_state = if listens {
+        PortState::Listening
+    } else {
+        PortState::Master
+    };
+    Bmca::<()>::calculate_recommended_state(own, ebest, erbest, &port_state)
+}
+
+/// The number of a state, 0 where the port stays as it is, and what it carries in these words.
+fn told(
+    state: Option<RecommendedState>,
+    own: fn(&InternalDefaultDS) -> String,
+    message: fn(&AnnounceMessage) -> String,
+) -> String {
+    let (number, carried) = match &state {
+        None => (0, NONE.to_string()),
+        Some(RecommendedState::M1(data)) => (1, own(data)),
+        Some(RecommendedState::M2(data)) => (2, own(data)),
+        Some(RecommendedState::M3(ebest)) => (3, message(ebest)),
+        Some(RecommendedState::P1(erbest)) => (4, message(erbest)),
+        Some(RecommendedState::P2(erbest)) => (5, message(erbest)),
+        Some(RecommendedState::S1(ebest)) => (6, message(ebest)),
+    };
+    format!("{number:02x} {carried}")
+}
