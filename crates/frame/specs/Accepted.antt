@@ -17,7 +17,7 @@ use Rattle.header.specs.RoundTrip.{Wired, header-kept}
 use Rattle.announce.specs.Wire.{contentAt}
 use Rattle.announce.specs.RoundTrip.{content-kept}
 use Rattle.tlv.specs.Tlv.{checkList}
-use Rattle.tlv.specs.Entries.{Taken, taken, taken-back}
+use Rattle.tlv_entries.specs.Entries.{Taken, taken, taken-back}
 use Rattle.frame.specs.declared.Message.{Message}
 use Rattle.frame.specs.declared.FrameRead.the-variants.{Done, Refused}
 use Rattle.frame.specs.Frame.{sizeAt, tlvsAt, frameRefusal, messageAt, readFrame}

@@ -22,7 +22,7 @@ use Rattle.announce.specs.declared.AnnounceMessage.{AnnounceMessage}
 use Rattle.announce.specs.Wire.{announceOf, announceWith, contentAt, contentWidths, contentBytes, reservedOf, withContent}
 use Rattle.announce.specs.Message.{withMessage, written, wired-back, content-back, content-again, reserved-there}
 use Rattle.announce.specs.RoundTrip as announce
-use Rattle.tlv.specs.Entries.{Taken, whole}
+use Rattle.tlv_entries.specs.Entries.{Taken, whole}
 use Rattle.frame.specs.declared.Message.{Message}
 use Rattle.frame.specs.declared.FrameRead.the-variants.{Done}
 use Rattle.frame.specs.Frame.{sizeAt, tlvsAt, messageAt, readFrame, fitsOf, withFrame, writeAnswer, writeExit}

@@ -134,7 +134,7 @@ fn boundary(sequence: u16, traceable: bool) -> AnnounceMessage {
 
 // Whether a list is one path trace of so many bytes.
 fn path(tlvs: &[u8], size: usize) -> bool {
-    match tlv::list_entry(tlvs, 0) {
+    match tlv_set::list_entry(tlvs, 0) {
         TlvRead::Entry {
             tlv_type,
             start,

@@ -1,5 +1,5 @@
 // The number by which programs print the name of a TLV's kind: its place among the names, and 0 where a kind has none.
-use tlv::TlvType;
+use tlv_type::TlvType;
 
 pub fn name_code(kind: TlvType) -> u8 {
     match kind {

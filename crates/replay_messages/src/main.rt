@@ -9,11 +9,11 @@ use replay::print_bytes;
 use replay::print_flag;
 use replay::print8;
 use replay::print16;
-use tlv::Added;
 use tlv::TlvCursor;
 use tlv::TlvRead;
-use tlv::TlvSetBuilder;
-use tlv::TlvType;
+use tlv_builder::Added;
+use tlv_builder::TlvSetBuilder;
+use tlv_type::TlvType;
 
 // The longest frame.
 const MAX_FRAME: usize = 2048;

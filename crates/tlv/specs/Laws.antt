@@ -11,11 +11,10 @@ use lib.ListN.{length, take, drop, length-drop}
 use lib.Dec.{leb, eqb}
 use borrow.Author.Tests.{le-leb, lt-leb, eq-eqb, ne-eqb, leb-true, leb-false, eqb-true}
 use Rattle.wire.specs.Be.{beAt}
-use Rattle.wire.specs.Refusal.{on-done, on-refused}
 use Rattle.tlv.specs.declared.TlvCursor.{TlvCursor}
 use Rattle.tlv.specs.declared.TlvRead.{TlvRead}
 use Rattle.tlv.specs.declared.TlvRead.the-variants.{Entry, End, Refused}
-use Rattle.tlv.specs.Tlv.{answerOf, entryAt, readAt, checkRead, checkIn, listCheck, checkList, listRead}
+use Rattle.tlv.specs.Tlv.{answerOf, entryAt, checkRead, checkIn, listCheck}
 
 -- ---- the ways of a read
 
@@ -164,14 +163,3 @@ pub unrolled : (least : ℕ) (l : List ℕ) → listCheck least l ≡ checkRead 
 unfolding listCheck
 unrolled least l =
     agree least (checkIn least (length l)) (listCheck least) l (λ m h. same-steps least (length l) (suc (length m)) m h (omega arith))
-
--- ---- one entry of a list that is checked first
-
-module _ (s : List ℕ) (at : ℕ) where
-  pub list-refused : (n : ℕ) → checkList s ≡ n → (n ≡ 0 → ⊥) → Refused n ≡ listRead s at
-  unfolding listRead
-  list-refused n e h = rw e (sym (on-refused n (readAt s at) Refused h))
-
-  pub list-taken : checkList s ≡ 0 → readAt s at ≡ listRead s at
-  unfolding listRead
-  list-taken e = sym (on-done (checkList s) (readAt s at) Refused e)

@@ -1,8 +1,4 @@
--- The definitions and laws of TLVs.
+-- The definitions and laws of reading TLVs.
 pub mod Tlv
 pub mod Laws
-pub mod Kind
-pub mod Builder
-pub mod BuilderLaws
-pub mod Entries
 pub mod Lines

@@ -7,7 +7,6 @@ use mathlib.Core.Option.{Option, none, some}
 use lib.ListN.{length, take, drop}
 use lib.Dec.{leb, eqb}
 use Rattle.wire.specs.Be.{beAt}
-use Rattle.wire.specs.Refusal.{onZero}
 use Rattle.tlv.specs.declared.TlvRead.{TlvRead}
 use Rattle.tlv.specs.declared.TlvRead.the-variants.{Entry, End, Refused}
 
@@ -53,11 +52,6 @@ checkList s = listCheck leastLeft s
 -- a writer's: the bytes are whole even entries, of which any may be empty
 abbrev pub wholeEntries : List ℕ → Bool
 wholeEntries s = eqb (listCheck 4 s) 0
-
--- ---- one entry of a list that is checked first
-
-unfoldable pub listRead : List ℕ → ℕ → TlvRead
-listRead s at = onZero (checkList s) (readAt s at) Refused
 
 -- ---- in the paper's numbers
 

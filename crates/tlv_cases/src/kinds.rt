@@ -1,5 +1,5 @@
 // Cases of the kind of a number.
-use tlv::TlvType;
+use tlv_type::TlvType;
 
 // The number of a kind that has a name, and 65,536 and more for another.
 fn number_of(kind: TlvType) -> u64 {

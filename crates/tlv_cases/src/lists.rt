@@ -4,7 +4,7 @@ use crate::reads;
 
 // A list whose first entry is of type 8 and has a value of this size.
 fn entry(s: &[u8], size: usize, number: u8) -> bool {
-    let checked = tlv::list_entry(s, 0);
+    let checked = tlv_set::list_entry(s, 0);
     let first = if number == 0 {
         reads::is_entry(checked, 8, 4, size)
     } else {
@@ -15,14 +15,14 @@ fn entry(s: &[u8], size: usize, number: u8) -> bool {
 
 // A list whose first entry is refused.
 fn refused(s: &[u8], number: u8) -> bool {
-    reads::is_refused(tlv::list_entry(s, 0), number)
+    reads::is_refused(tlv_set::list_entry(s, 0), number)
         & reads::is_refused(reads::single(s, 0), number)
         & reads::list_answer(s, number)
 }
 
 // No byte.
 fn none(s: &[u8]) -> bool {
-    reads::is_end(tlv::list_entry(s, 0))
+    reads::is_end(tlv_set::list_entry(s, 0))
         & reads::is_end(reads::single(s, 0))
         & reads::list_answer(s, 0)
 }

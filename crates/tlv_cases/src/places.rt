@@ -12,16 +12,16 @@ const THREE: [u8; 18] = *b"\
 // Whether both reads at a place of these entries find this entry.
 fn entry(at: usize, number: u16, start: usize, size: usize) -> bool {
     reads::is_entry(reads::single(&THREE, at), number, start, size)
-        & reads::is_entry(tlv::list_entry(&THREE, at), number, start, size)
+        & reads::is_entry(tlv_set::list_entry(&THREE, at), number, start, size)
 }
 
 fn refused(at: usize, number: u8) -> bool {
     reads::is_refused(reads::single(&THREE, at), number)
-        & reads::is_refused(tlv::list_entry(&THREE, at), number)
+        & reads::is_refused(tlv_set::list_entry(&THREE, at), number)
 }
 
 fn end(at: usize) -> bool {
-    reads::is_end(reads::single(&THREE, at)) & reads::is_end(tlv::list_entry(&THREE, at))
+    reads::is_end(reads::single(&THREE, at)) & reads::is_end(tlv_set::list_entry(&THREE, at))
 }
 
 // Each place in the list, and places past its end.
@@ -63,11 +63,11 @@ const LEFT: [u8; 8] = *b"\x00\x08\x00\x02\x01\x02\x00\x08";
 
 // At any place of a damaged list its own refusal comes first; a single read says only what stands there.
 fn odd_list(at: usize) -> bool {
-    reads::is_refused(tlv::list_entry(&ODD, at), 4)
+    reads::is_refused(tlv_set::list_entry(&ODD, at), 4)
 }
 
 fn left_list(at: usize) -> bool {
-    reads::is_refused(tlv::list_entry(&LEFT, at), 1)
+    reads::is_refused(tlv_set::list_entry(&LEFT, at), 1)
 }
 
 pub fn damaged(n: u64) -> bool {
@@ -93,14 +93,14 @@ pub fn damaged(n: u64) -> bool {
 // Bytes that no entry begins.
 fn damaged_start(n: u64) -> bool {
     match n {
-        14 => reads::is_end(reads::single(b"", 0)) & reads::is_end(tlv::list_entry(b"", 0)),
-        15 => reads::is_end(reads::single(b"", 1)) & reads::is_end(tlv::list_entry(b"", 1)),
+        14 => reads::is_end(reads::single(b"", 0)) & reads::is_end(tlv_set::list_entry(b"", 0)),
+        15 => reads::is_end(reads::single(b"", 1)) & reads::is_end(tlv_set::list_entry(b"", 1)),
         16 => reads::is_end(reads::single(b"\x00", 1))
-            & reads::is_refused(tlv::list_entry(b"\x00", 1), 1),
+            & reads::is_refused(tlv_set::list_entry(b"\x00", 1), 1),
         17 => reads::is_end(reads::single(b"", usize::MAX))
-            & reads::is_end(tlv::list_entry(b"", usize::MAX)),
+            & reads::is_end(tlv_set::list_entry(b"", usize::MAX)),
         _ => reads::is_refused(reads::single(b"\x00\x08\x00\x01\x00", 0), 4)
-            & reads::is_refused(tlv::list_entry(b"\x00\x08\x00\x01\x00", 7), 4),
+            & reads::is_refused(tlv_set::list_entry(b"\x00\x08\x00\x01\x00", 7), 4),
     }
 }
 

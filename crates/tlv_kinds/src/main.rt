@@ -4,7 +4,7 @@ use libc::STDOUT_FILENO;
 use replay::print_flag;
 use replay::print8;
 use replay::print16;
-use tlv::TlvType;
+use tlv_type::TlvType;
 
 // What is told of a number: the code of its name, whether it is passed on, and whether its kind has the same number.
 struct Kind {

@@ -1,6 +1,6 @@
 // Cases of the builder: what it writes, what it refuses, and the bytes that it leaves.
-use tlv::Added;
-use tlv::TlvSetBuilder;
+use tlv_builder::Added;
+use tlv_builder::TlvSetBuilder;
 use vectors::framing;
 use vectors::same;
 
@@ -14,7 +14,7 @@ fn write(target: &mut [u8], room: usize, number: u16, value: &[u8]) -> u8 {
     if target.len() < room {
         return 255;
     }
-    tlv::write_entry(&mut target[0..room], number, value)
+    tlv_builder::write_entry(&mut target[0..room], number, value)
 }
 
 // Adds an entry in the first bytes of a target.

@@ -2,7 +2,7 @@
 use mathlib.Core.Path.{sym, _∙_}
 use native.Mathlib.Omega.{arith}
 use borrow.Author.Needs.{needs}
-use Rattle.tlv.specs.BuilderLaws.{added-within}
+use Rattle.tlv_builder.specs.BuilderLaws.{added-within}
 use Rattle.replay_messages.proofs.add_entry.Statement.{statement}
 use Rattle.replay_messages.proofs.add_entry.Tie as tie
 

@@ -1,0 +1,3 @@
+-- The definitions and laws of writing TLVs.
+pub mod Builder
+pub mod BuilderLaws

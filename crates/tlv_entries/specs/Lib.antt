@@ -1,0 +1,2 @@
+-- The laws of what a list of TLVs holds.
+pub mod Entries

@@ -1,0 +1,2 @@
+-- The definition and laws of the view.
+pub mod View

@@ -1,0 +1,2 @@
+-- The definitions and laws of the kinds of TLVs.
+pub mod Kind
