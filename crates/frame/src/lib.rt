@@ -90,7 +90,7 @@ fn fits_wire(a: AnnounceMessage, tlvs: &[u8]) -> bool
 {
     let h = a.header;
     let version = h.version;
-    let fits = header::fits_wire(
+    let fits = header_writer::fits_wire(
         h.sdo_id,
         version.major,
         version.minor,
@@ -113,7 +113,7 @@ fn put_frame(a: AnnounceMessage, tlvs: &[u8], s: &mut [u8])
     ensures { λ _. ⌜ now (s .exit) ≡ withFrame (now (s .entry)) a (now (tlvs .entry)) ⌝ }
 {
     let h = a.header;
-    header::put_header(h, MessageType::Announce, (tlvs.len() + TLV_START) as u16, s);
+    header_writer::put_header(h, MessageType::Announce, (tlvs.len() + TLV_START) as u16, s);
     announce::put_content(a, s, HEADER_SIZE);
     wire::put_bytes(s, TLV_START, tlvs);
 }

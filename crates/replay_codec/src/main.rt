@@ -96,7 +96,7 @@ fn print_header_again(d: DeserializedHeader) {
         size - HEADER_SIZE
     };
     let mut target = [UNWRITTEN; HEADER_SIZE];
-    header::serialize_header(h, message_type, content, &mut target);
+    header_writer::serialize_header(h, message_type, content, &mut target);
     print_bytes(&target);
 }
 

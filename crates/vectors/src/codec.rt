@@ -20,7 +20,7 @@ pub fn write_header(
     if target.len() < size {
         return 255;
     }
-    header::serialize_header(h, kind, content, &mut target[0..size])
+    header_writer::serialize_header(h, kind, content, &mut target[0..size])
 }
 
 // Writes a content into bytes of the target from 34 on: the answer, or 255 where the target is shorter.
@@ -40,7 +40,7 @@ pub fn write_content(a: AnnounceMessage, target: &mut [u8], size: usize) -> u8 {
 pub fn gives(a: AnnounceMessage, kind: MessageType, fill: u8, bytes: &[u8]) -> bool {
     let h = a.header;
     let mut target = [fill; 70];
-    let first = header::serialize_header(h, kind, 30, &mut target);
+    let first = header_writer::serialize_header(h, kind, 30, &mut target);
     let second = write_content(a, &mut target, 36);
     (first == 0) & (second == 0) & same::holds(&target, bytes, fill)
 }

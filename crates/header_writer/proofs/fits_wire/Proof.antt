@@ -1,9 +1,9 @@
--- `header::fits_wire` meets its contract, by the tests that led to each answer.
+-- `header_writer::fits_wire` meets its contract, by the tests that led to each answer.
 -- Assumes nothing.
 use borrow.Author.Tests.{le-leb, lt-leb}
 use Rattle.header.specs.Wire.{fitsWire}
-use Rattle.header.proofs.fits_wire.Statement.{statement}
-use Rattle.header.proofs.fits_wire.Tie as tie
+use Rattle.header_writer.proofs.fits_wire.Statement.{statement}
+use Rattle.header_writer.proofs.fits_wire.Tie as tie
 
 returns : tie.Need-returns
 unfolding fitsWire

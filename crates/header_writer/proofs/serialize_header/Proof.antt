@@ -1,4 +1,4 @@
--- `header::serialize_header` meets its contract, by the law of each of its three ways.
+-- `header_writer::serialize_header` meets its contract, by the law of each of its three ways.
 -- Assumes nothing.
 use Prim.Native.Nat.{_+_}
 use mathlib.Core.Path.{sym, _∙_}
@@ -6,11 +6,11 @@ use borrow.Author.Needs.{needs}
 use borrow.Author.Tests.{not-true, not-false}
 use native.Mathlib.Omega.{arith}
 use Rattle.wire.specs.Write.{wrote-15, wrote-1, wrote-0}
 use Rattle.header.specs.Wire.{fitsOf, withHeader}
 use Rattle.header.specs.Laws.{fitting}
 use denote.Ref.{now}
-use Rattle.header.proofs.serialize_header.Statement.{statement}
-use Rattle.header.proofs.serialize_header.Tie as tie
+use Rattle.header_writer.proofs.serialize_header.Statement.{statement}
+use Rattle.header_writer.proofs.serialize_header.Tie as tie
 
 returns : tie.Need-returns
 returns c =

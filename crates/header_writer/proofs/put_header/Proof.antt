@@ -1,10 +1,10 @@
--- `header::put_header` meets its contract: the fields are written by the layout, with the numbers that the callees give.
+-- `header_writer::put_header` meets its contract: the fields are written by the layout, with the numbers that the callees give.
 -- Assumes nothing.
 use borrow.Author.Needs.{needs}
 use native.Mathlib.Omega.{arith}
 use Rattle.header.specs.Wire.{withHeader, headerWidths, headerValues}
-use Rattle.header.proofs.put_header.Statement.{statement}
-use Rattle.header.proofs.put_header.Tie as tie
+use Rattle.header_writer.proofs.put_header.Statement.{statement}
+use Rattle.header_writer.proofs.put_header.Tie as tie
 
 cast-t29 : tie.Need-cast-t29
 cast-t29 c = omega (arith, c .struct-known7 .given)
