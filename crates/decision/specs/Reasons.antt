@@ -1,7 +1,7 @@
 -- Why a port is recommended a state: one reason for each way through the crate's text, with what the state carries.
 -- Assumes nothing.
 use mathlib.Core.Path.{_≡_, refl, sym, subst, _∙_}
-use mathlib.Core.Bool.{Bool, true, false, _&&_, false≢true}
+use mathlib.Core.Bool.{Bool, true, false, false≢true}
 use mathlib.Core.Option.{Option, none, some}
 use lib.Dec.{eqb}
 use borrow.Author.Tests.{eqb-true, eq-eqb}
@@ -11,6 +11,7 @@ use Rattle.order.specs.declared.Ordering.the-variants.{Less, Equal, Greater}
 use Rattle.order.specs.Order.{isLess}
 use Rattle.compare.specs.Dataset.{ofOwn, compareOf, asOrdering, isByTopology}
 use Rattle.choice.specs.declared.BestAnnounceMessage.{BestAnnounceMessage}
+use Rattle.same.specs.Test.{both}
 use Rattle.same.specs.Same.{samePort, same-port-eq, same-port-refl, same-message-eq, same-message-refl}
 use Rattle.decision.specs.declared.RecommendedState.{RecommendedState}
 use Rattle.decision.specs.declared.RecommendedState.the-variants.{Stay, M1, M2, M3, P1, P2, S1}
@@ -18,15 +19,11 @@ use Rattle.decision.specs.State.{setOf, sameBest, comparedBy, compareD0,
 use Rattle.decision.specs.Steps.{state-same, state-near, state-far}
 
 -- `sameBest` says yes exactly when the two records are equal
-and-true : (s t : Bool) → (s && t) ≡ true → (s ≡ true) × (t ≡ true)
-and-true true t e = (refl, e)
-and-true false t e = absurd (false≢true e)
-
 pub same-best-eq : (a b : BestAnnounceMessage) → sameBest a b ≡ true → a ≡ b
 unfolding sameBest
 same-best-eq a b e =
-    let p = and-true (samePort (a .identity) (b .identity)) _ e in
-    let q = and-true (eqb (a .age) (b .age)) _ (p .1) in
+    let p = both (samePort (a .identity) (b .identity)) _ e in
+    let q = both (eqb (a .age) (b .age)) _ (p .1) in
     let port = same-port-eq (a .identity) (b .identity) (p .0) in
     let age = eqb-true (a .age) (b .age) (q .0) in
     let message = same-message-eq (a .message) (b .message) (q .1) in

@@ -76,7 +76,7 @@ abbrev pub Determine : {A : Type 0} → List (Field A) → A → A → Type 0
 Determine [] a b = a ≡ b
 Determine (f ∷ fs) a b = f .read a ≡ f .read b → Determine fs a b
 
-both : (p q : Bool) → (p && q) ≡ true → (p ≡ true) × (q ≡ true)
+pub both : (p q : Bool) → (p && q) ≡ true → (p ≡ true) × (q ≡ true)
 both true q e = (refl, e)
 both false q e = absurd (false≢true e)
 
