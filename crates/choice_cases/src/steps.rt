@@ -58,7 +58,7 @@ fn right_farther(receiver: u64) -> DatasetOrdering {
     }
 }
 
-// Ports 1 and 2, 2 and 1, 257 twice.
+// Ports 1 and 2, 257 and 2, 257 twice.
 fn by_port(ports: u64) -> DatasetOrdering {
     match ports {
         0 => DatasetOrdering::BetterByTopology,
@@ -127,8 +127,8 @@ fn port_of(ports: u64, right: u64) -> u16 {
     match ports % 3 * 2 + right % 2 {
         0 => 1,
         1 => 2,
-        2 => 2,
-        3 => 1,
+        2 => 257,
+        3 => 2,
         _ => 257,
     }
 }
