@@ -7,7 +7,7 @@ use header::PtpVersion;
 use vectors::codec;
 use vectors::frames;
 use vectors::frames::F;
-use vectors::same;
+use vectors::room;
 
 // What lies in the targets.
 const LAY: [u8; 70] = *b"\
@@ -74,7 +74,7 @@ fn refused(sdo: u16, major: u8, minor: u8, content: usize, size: usize, number: 
     let h = header_of(sdo, major, minor);
     let mut target = LAY;
     let answer = codec::write_header(h, MessageType::Announce, content, &mut target, size);
-    (answer == number) & same::holds(&target, &LAY, 0)
+    (answer == number) & room::holds(&target, &LAY, 0)
 }
 
 // Whether the writer of headers takes the header, writes F(1) with these six bytes at the start, and leaves the rest.
@@ -84,7 +84,7 @@ fn taken(sdo: u16, major: u8, minor: u8, content: usize, size: usize, six: u64) 
     let mut want = HEADED;
     wire::put_be(&mut want, 0, 6, six);
     let answer = codec::write_header(h, MessageType::Announce, content, &mut target, size);
-    (answer == 0) & same::holds(&target, &want, 0)
+    (answer == 0) & room::holds(&target, &want, 0)
 }
 
 // What the writer of headers refuses, and the nearest that it takes.
@@ -127,7 +127,7 @@ fn content_of(seconds: u64) -> AnnounceMessage {
 fn content_refused(seconds: u64, size: usize, number: u8) -> bool {
     let mut target = LAY;
     let answer = codec::write_content(content_of(seconds), &mut target, size);
-    (answer == number) & same::holds(&target, &LAY, 0)
+    (answer == number) & room::holds(&target, &LAY, 0)
 }
 
 // Whether the writer of contents takes the seconds, writes F(1)'s content with them, and leaves the rest.
@@ -136,7 +136,7 @@ fn content_taken(seconds: u64, size: usize, six: u64) -> bool {
     let mut want = FILLED;
     wire::put_be(&mut want, 34, 6, six);
     let answer = codec::write_content(content_of(seconds), &mut target, size);
-    (answer == 0) & same::holds(&target, &want, 0)
+    (answer == 0) & room::holds(&target, &want, 0)
 }
 
 // What the writer of contents refuses, and the nearest that it takes.

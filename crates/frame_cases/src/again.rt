@@ -1,7 +1,7 @@
 // Cases of frames that are read and written again.
 use vectors::frames::F;
 use vectors::framing;
-use vectors::same;
+use vectors::room;
 use vectors::up::UP;
 use vectors::up::UP_AGAIN;
 
@@ -16,7 +16,7 @@ fn twice(head: [u8; 64], tlvs: &[u8], again: [u8; 64]) -> bool {
     let one = framing::rewrite(&frame, &mut target);
     let once = target;
     let two = framing::rewrite(&once, &mut target);
-    (one == 0) & (two == 0) & same::holds(&once, &want, 0) & same::holds(&target, &want, 0)
+    (one == 0) & (two == 0) & room::holds(&once, &want, 0) & room::holds(&target, &want, 0)
 }
 
 // F(1) with all bits that are ignored, and with each control byte, each byte 46 and each of bytes 16 to 19.

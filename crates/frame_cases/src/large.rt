@@ -1,7 +1,7 @@
 // Cases of the longest messages that are read: 65,534 bytes, of which 65,470 are TLVs.
 use vectors::frames::F;
 use vectors::framing;
-use vectors::same;
+use vectors::room;
 
 // Lays F(1) with a length field and an entry of a length, whose value is what lies there.
 fn lay(frame: &mut [u8], length: u64, entry: u64) {
@@ -17,7 +17,7 @@ fn lay(frame: &mut [u8], length: u64, entry: u64) {
 // The first bytes of such a frame.
 fn one(length: u64, entry: u64, given: usize, answer: u8) -> bool {
     let mut frame = io::large_buffer();
-    same::fill(&mut frame);
+    room::fill(&mut frame);
     lay(&mut frame, length, entry);
     framing::f_answers(framing::first(&frame, given), answer, length as usize)
 }

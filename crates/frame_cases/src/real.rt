@@ -8,7 +8,7 @@ use header::PortIdentity;
 use tlv::TlvRead;
 use vectors::frames;
 use vectors::framing;
-use vectors::same;
+use vectors::room;
 
 // The grandmaster, after pmc had set its time and frequency traceable, its timescale PTP and its UTC offset of 37 valid.
 const GRANDMASTER: [u8; 76] = *b"\
@@ -164,7 +164,7 @@ fn whole(s: &[u8], want: AnnounceMessage, size: usize, end: usize) -> bool {
     framing::answers(s, 0, want, end)
         & path(tlvs_of(s, end), size)
         & (answer == 0)
-        & same::holds(&target, framing::first(s, end), 0)
+        & room::holds(&target, framing::first(s, end), 0)
 }
 
 pub fn frame(n: u64) -> bool {

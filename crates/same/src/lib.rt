@@ -56,7 +56,7 @@ fn interval(h: Header) -> i8
     h.log_message_interval
 }
 
-fn same_header(a: Header, b: Header) -> bool
+pub fn same_header(a: Header, b: Header) -> bool
     ensures { λ r. ⌜ r ≡ header .same a b ⌝ }
 {
     let version_a = a.version;

@@ -9,7 +9,6 @@ use header::Header;
 use header::PortIdentity;
 use header::PtpVersion;
 use vectors::frames;
-use vectors::same;
 
 // Five classes, listening or not, and four by four kinds of messages; then five classes, listening or not, and 40 changes.
 pub const CASES: u64 = 560;
@@ -144,10 +143,10 @@ pub fn is(
         RecommendedState::Stay => digit == b'0',
         RecommendedState::M1(d) => (digit == b'1') & same_own(d, own),
         RecommendedState::M2(d) => (digit == b'2') & same_own(d, own),
-        RecommendedState::M3(a) => (digit == b'3') & same::same_announce(a, ebest),
-        RecommendedState::P1(a) => (digit == b'4') & same::same_announce(a, erbest),
-        RecommendedState::P2(a) => (digit == b'5') & same::same_announce(a, erbest),
-        RecommendedState::S1(a) => (digit == b'6') & same::same_announce(a, ebest),
+        RecommendedState::M3(a) => (digit == b'3') & same::same_message(a, ebest),
+        RecommendedState::P1(a) => (digit == b'4') & same::same_message(a, erbest),
+        RecommendedState::P2(a) => (digit == b'5') & same::same_message(a, erbest),
+        RecommendedState::S1(a) => (digit == b'6') & same::same_message(a, ebest),
     };
     right & (state.number() == digit % 16)
 }

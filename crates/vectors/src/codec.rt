@@ -1,7 +1,7 @@
 // The calls under test on whole frames.
 use crate::frames;
 use crate::frames::Message;
-use crate::same;
+use crate::room;
 use announce::AnnounceMessage;
 use announce::AnnounceRead;
 use header::DeserializedHeader;
@@ -42,7 +42,7 @@ pub fn gives(a: AnnounceMessage, kind: MessageType, fill: u8, bytes: &[u8]) -> b
     let mut target = [fill; 70];
     let first = header_writer::serialize_header(h, kind, 30, &mut target);
     let second = write_content(a, &mut target, 36);
-    (first == 0) & (second == 0) & same::holds(&target, bytes, fill)
+    (first == 0) & (second == 0) & room::holds(&target, bytes, fill)
 }
 
 // Whether the message after a header is as wanted and, written again over bytes of one value, gives these bytes.
@@ -59,7 +59,7 @@ fn round_content(
         return false;
     }
     match announce::deserialize_content(h, &frame[34..]) {
-        AnnounceRead::Done(a) => same::same_announce(a, want) & gives(a, kind, fill, bytes),
+        AnnounceRead::Done(a) => same::same_message(a, want) & gives(a, kind, fill, bytes),
         AnnounceRead::Refused(_) => false,
     }
 }

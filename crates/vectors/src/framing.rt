@@ -1,6 +1,5 @@
 // The calls of frame on whole frames.
 use crate::frames;
-use crate::same;
 use announce::AnnounceMessage;
 use frame::FrameRead;
 
@@ -32,7 +31,7 @@ pub fn answers(s: &[u8], number: u8, want: AnnounceMessage, end: usize) -> bool 
     match frame::read_frame(s) {
         FrameRead::Done(m) => {
             let a = m.announce;
-            (number == 0) & same::same_announce(a, want) & (m.tlv_start == 64) & (m.tlv_end == end)
+            (number == 0) & same::same_message(a, want) & (m.tlv_start == 64) & (m.tlv_end == end)
         }
         FrameRead::Refused(n) => (number != 0) & (n == number),
     }

@@ -2,7 +2,7 @@
 use tlv_builder::Added;
 use tlv_builder::TlvSetBuilder;
 use vectors::framing;
-use vectors::same;
+use vectors::room;
 
 // Values.
 const FOUR: [u8; 4] = *b"\xAA\xBB\xCC\xDD";
@@ -43,17 +43,17 @@ fn is_refused(r: Added, number: u8) -> bool {
 // Whether an entry of type 0x4000 is written into a room as these bytes.
 fn written(room: usize, value: &[u8], bytes: &[u8]) -> bool {
     let mut target = [0u8; 40];
-    same::fill(&mut target);
+    room::fill(&mut target);
     let answer = write(&mut target, room, 0x4000, value);
-    (answer == 0) & same::holds_over(&target, bytes)
+    (answer == 0) & room::holds_over(&target, bytes)
 }
 
 // Whether it is refused with this number, and every byte left.
 fn unwritten(room: usize, value: &[u8], number: u8) -> bool {
     let mut target = [0u8; 40];
-    same::fill(&mut target);
+    room::fill(&mut target);
     let answer = write(&mut target, room, 0x4000, value);
-    (answer == number) & same::holds_over(&target, b"")
+    (answer == number) & room::holds_over(&target, b"")
 }
 
 // A value of 4 bytes, of none and of 3 in each room from 0 to 32.
@@ -79,32 +79,32 @@ pub fn entry(n: u64) -> bool {
 // An entry of every type.
 pub fn entry_type(n: u64) -> bool {
     let mut target = [0u8; 12];
-    same::fill(&mut target);
+    room::fill(&mut target);
     let mut want = *b"\x00\x00\x00\x02\x01\x02";
     want[0] = (n / 256 % 256) as u8;
     want[1] = (n % 256) as u8;
     let answer = write(&mut target, 12, (n % 65536) as u16, &TWO);
-    (answer == 0) & same::holds_over(&target, &want)
+    (answer == 0) & room::holds_over(&target, &want)
 }
 
 // Whether 4 bytes are added after so many used ones as an entry of type 8, which ends within 32 bytes.
 fn added(used: usize) -> bool {
     let mut target = [0u8; 40];
     let mut want = [0u8; 40];
-    same::fill(&mut target);
-    same::fill(&mut want);
+    room::fill(&mut target);
+    room::fill(&mut want);
     let at = used % 32;
     wire::put_bytes(&mut want, at, b"\x00\x08\x00\x04\xAA\xBB\xCC\xDD");
     let r = add(TlvSetBuilder { used }, &mut target, 32, 8, &FOUR);
-    is_used(r, at + 8) & same::holds_over(&target, &want)
+    is_used(r, at + 8) & room::holds_over(&target, &want)
 }
 
 // Whether nothing is added after so many used bytes of a room.
 fn left(used: usize, room: usize, value: &[u8], number: u8) -> bool {
     let mut target = [0u8; 40];
-    same::fill(&mut target);
+    room::fill(&mut target);
     let r = add(TlvSetBuilder { used }, &mut target, room, 8, value);
-    is_refused(r, number) & same::holds_over(&target, b"")
+    is_refused(r, number) & room::holds_over(&target, b"")
 }
 
 // Each number of used bytes from 0 to 40 of 32, before 4 bytes and before an odd value.
@@ -161,15 +161,15 @@ fn long(size: usize, used: usize, room: usize, number: u8, end: usize) -> bool {
     let value = [0x5Au8; 65600];
     let mut target = [0u8; 65600];
     let mut want = [0u8; 65600];
-    same::fill(&mut target);
-    same::fill(&mut want);
+    room::fill(&mut target);
+    room::fill(&mut want);
     let part = framing::first(&value, size);
     let r = add(TlvSetBuilder { used }, &mut target, room, 8, part);
     if number != 0 {
-        return is_refused(r, number) & same::holds_over(&target, b"");
+        return is_refused(r, number) & room::holds_over(&target, b"");
     }
     lay_long(&mut want, used, part);
-    is_used(r, end) & same::holds_over(&target, &want)
+    is_used(r, end) & room::holds_over(&target, &want)
 }
 
 pub fn long_value(n: u64) -> bool {
@@ -201,7 +201,7 @@ fn then(r: Added, target: &mut [u8], room: usize) -> Added {
 // Two entries in a room, the first of these bytes: the answer's number, or 0, and what the target then holds.
 fn after(first: &[u8], room: usize, number: u8, end: usize, bytes: &[u8]) -> bool {
     let mut target = [0u8; 40];
-    same::fill(&mut target);
+    room::fill(&mut target);
     let one = add(TlvSetBuilder::new(), &mut target, room, 8, first);
     let two = then(one, &mut target, room);
     let right = if number == 0 {
@@ -209,7 +209,7 @@ fn after(first: &[u8], room: usize, number: u8, end: usize, bytes: &[u8]) -> boo
     } else {
         is_refused(two, number)
     };
-    right & same::holds_over(&target, bytes)
+    right & room::holds_over(&target, bytes)
 }
 
 pub fn two(n: u64) -> bool {

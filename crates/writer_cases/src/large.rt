@@ -2,7 +2,7 @@
 use vectors::frames;
 use vectors::frames::F;
 use vectors::framing;
-use vectors::same;
+use vectors::room;
 
 // Lays the type and the length of an entry, whose value is what lies there.
 fn lay_entry(tlvs: &mut [u8], entry: u64) {
@@ -17,22 +17,22 @@ fn lay_entry(tlvs: &mut [u8], entry: u64) {
 fn gives(tlvs: &[u8], room: usize, answer: u8) -> bool {
     let mut target = io::large_buffer();
     let mut want = io::large_buffer();
-    same::fill(&mut target);
+    room::fill(&mut target);
     framing::lay(&mut want, &F, tlvs);
-    want[46] = same::laid(46);
+    want[46] = room::laid(46);
     let end = if answer == 0 {
         64 + tlvs.len() % 65536
     } else {
         0
     };
     let got = framing::write(frames::f_message(), tlvs, &mut target, room);
-    (got == answer) & same::holds_over(&target, framing::first(&want, end))
+    (got == answer) & room::holds_over(&target, framing::first(&want, end))
 }
 
 // TLVs of a size, of which the first is of this length.
 fn sized(size: usize, entry: u64, room: usize, answer: u8) -> bool {
     let mut tlvs = io::large_buffer();
-    same::fill(&mut tlvs);
+    room::fill(&mut tlvs);
     lay_entry(&mut tlvs, entry);
     gives(framing::first(&tlvs, size), room, answer)
 }

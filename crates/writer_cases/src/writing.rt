@@ -5,7 +5,7 @@ use header::PtpVersion;
 use vectors::frames;
 use vectors::frames::F;
 use vectors::framing;
-use vectors::same;
+use vectors::room;
 use vectors::up;
 use vectors::up::UP_AGAIN;
 
@@ -36,21 +36,21 @@ fn message(sdo: u16, major: u8, minor: u8, seconds: u64) -> AnnounceMessage {
 // Whether a message is refused with this number in a room, and every byte left.
 fn refused(a: AnnounceMessage, tlvs: &[u8], room: usize, number: u8) -> bool {
     let mut target = [0u8; 96];
-    same::fill(&mut target);
+    room::fill(&mut target);
     let answer = framing::write(a, tlvs, &mut target, room);
-    (answer == number) & same::holds_over(&target, b"")
+    (answer == number) & room::holds_over(&target, b"")
 }
 
 // Whether a message is taken in a room, and its bytes are these 64, but for byte 46, and the TLVs; every other byte is left.
 fn taken(a: AnnounceMessage, tlvs: &[u8], room: usize, head: [u8; 64]) -> bool {
     let mut target = [0u8; 96];
     let mut want = [0u8; 96];
-    same::fill(&mut target);
+    room::fill(&mut target);
     framing::lay(&mut want, &head, tlvs);
-    want[46] = same::laid(46);
+    want[46] = room::laid(46);
     let end = 64 + tlvs.len() % 32;
     let answer = framing::write(a, tlvs, &mut target, room);
-    (answer == 0) & same::holds_over(&target, framing::first(&want, end))
+    (answer == 0) & room::holds_over(&target, framing::first(&want, end))
 }
 
 // A message that will not fit, with a TLV.
@@ -166,7 +166,7 @@ pub fn room(n: u64) -> bool {
 // reader: alone, and with bytes after it.
 fn read_back(a: AnnounceMessage, head: [u8; 64], tlvs: &[u8], answer: u8) -> bool {
     let mut target = [0u8; 96];
-    same::fill(&mut target);
+    room::fill(&mut target);
     let got = framing::write(a, tlvs, &mut target, 96);
     let end = 64 + tlvs.len() % 32;
     (got == 0)

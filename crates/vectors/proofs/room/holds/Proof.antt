@@ -1,18 +1,18 @@
--- `vectors::same::holds_over` is safe and ends: i is at most the target's length.
+-- `vectors::same::holds` is safe and ends: i is at most the target's length.
 -- Assumes nothing.
 use Prim.Native.Nat.{_≤_, _-_}
 use borrow.Author.Needs.{needs}
-use Rattle.vectors.proofs.same.holds_over.Statement.{statement}
-use Rattle.vectors.proofs.same.holds_over.Tie as tie
+use Rattle.vectors.proofs.room.holds.Statement.{statement}
+use Rattle.vectors.proofs.room.holds.Tie as tie
 
 abbrev Inv-loop : tie.InvT-loop
-Inv-loop target bytes i₀ i-end i = i ≤ i-end
+Inv-loop target bytes rest i₀ i-end i = i ≤ i-end
 
 abbrev μ-loop : tie.MeasureT-loop
-μ-loop target bytes i₀ i-end i = i-end - i
+μ-loop target bytes rest i₀ i-end i = i-end - i
 
-pub holds-over-spec : {M : Type 1} → statement M
-holds-over-spec =
+pub holds-spec : {M : Type 1} → statement M
+holds-spec =
     tie.close
     (tie.spec
     Inv-loop
@@ -20,7 +20,6 @@ holds-over-spec =
     (λ c. search needs)
     (λ c. search needs)
     (λ c. search needs)
-    (λ c κs. search needs)
     (λ c. search needs)
     (λ c. search needs)
     (λ c. search needs)

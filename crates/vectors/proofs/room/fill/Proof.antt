@@ -5,8 +5,8 @@ use Prim.Native.Nat.{_≤_, _-_}
 use lib.ListN.{length, length-set}
 use native.Mathlib.Omega.{arith}
 use borrow.Author.Needs.{needs}
-use Rattle.vectors.proofs.same.fill.Statement.{statement}
-use Rattle.vectors.proofs.same.fill.Tie as tie
+use Rattle.vectors.proofs.room.fill.Statement.{statement}
+use Rattle.vectors.proofs.room.fill.Tie as tie
 
 abbrev Inv-loop : tie.InvT-loop
 Inv-loop target₀ i₀ i-end target i = (i ≤ i-end) × (length target ≡ i-end)
