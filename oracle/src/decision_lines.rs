@@ -8,15 +8,8 @@ use crate::state_lines::state;
 const PORTS: usize = 8;
 const MAX_CANDIDATES: usize = 48;
 
-/// The fields by which different grandmasters are told apart, in their order.
-const FIGURE_34: [Field; 6] = [
-    PRIORITY_1,
-    CLASS,
-    ACCURACY,
-    VARIANCE,
-    PRIORITY_2,
-    GRANDMASTER,
-];
+/// How many fields of a set tell different grandmasters apart: the first of them, in their order.
+const FIGURE_34: usize = 6;
 
 /// A line: the kinds take turns.
 pub fn line(index: u64, random: &mut Random) -> Vec<u8> {
@@ -55,14 +48,14 @@ fn either(mut pair: [Candidate; 2], random: &mut Random) -> [Candidate; 2] {
 fn figure_34(turn: usize, world: &World, random: &mut Random) -> [Candidate; 2] {
     let first = world.anywhere(random);
     let mut second = first;
-    let decides = turn % FIGURE_34.len();
-    if turn / FIGURE_34.len() % 2 == 0 {
+    let decides = turn % FIGURE_34;
+    if turn / FIGURE_34 % 2 == 0 {
         second = World::new(random).anywhere(random);
     }
-    for field in &FIGURE_34[..=decides] {
+    for field in &SET[..=decides] {
         put(&mut second, *field, get(&first, *field));
     }
-    change(&mut second, FIGURE_34[decides], random);
+    change(&mut second, SET[decides], random);
     if get(&first, GRANDMASTER) == get(&second, GRANDMASTER) {
         change(&mut second, GRANDMASTER, random);
     }
