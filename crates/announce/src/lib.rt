@@ -45,7 +45,7 @@ pub const CONTENT_SIZE: usize = 30;
 const WIDTHS: [usize; 12] = [6, 4, 2, 1, 1, 1, 1, 2, 1, 8, 2, 1];
 
 // What the numbers of the fields mean.
-fn announce_of(
+pub fn announce_of(
     header: Header,
     seconds: u64,
     nanos: u32,
@@ -115,7 +115,7 @@ pub fn deserialize_content(header: Header, buffer: &[u8]) -> AnnounceRead
 }
 
 // The bits of the signed field.
-fn offset_bits(a: AnnounceMessage) -> u16
+pub fn offset_bits(a: AnnounceMessage) -> u16
     ensures { λ r. ⌜ r ≡ ofZ w16 (a .«current_utc_offset») ⌝ }
 {
     let z = a.current_utc_offset;

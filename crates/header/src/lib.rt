@@ -142,7 +142,7 @@ pub fn port_identity_at(s: &[u8], at: usize) -> PortIdentity
 }
 
 // What the numbers of the fields mean.
-fn header_of(
+pub fn header_of(
     sdo_type: u8,
     versions: u8,
     domain: u8,

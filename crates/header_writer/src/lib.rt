@@ -23,7 +23,7 @@ fn flag(b: bool) -> u8
     if b { 1 } else { 0 }
 }
 
-fn flags6_of(h: Header) -> u8
+pub fn flags6_of(h: Header) -> u8
     ensures { λ r. ⌜ r ≡ pack (bits6 h) ⌝ }
 {
     flag(h.alternate_master_flag)
@@ -33,7 +33,7 @@ fn flags6_of(h: Header) -> u8
         + flag(h.ptp_profile_specific_2) * 64
 }
 
-fn flags7_of(h: Header) -> u8
+pub fn flags7_of(h: Header) -> u8
     ensures { λ r. ⌜ r ≡ pack (bits7 h) ⌝ }
 {
     flag(h.leap61)
@@ -47,14 +47,14 @@ fn flags7_of(h: Header) -> u8
 
 // The bits of the two signed fields.
 
-fn correction_bits(h: Header) -> u64
+pub fn correction_bits(h: Header) -> u64
     ensures { λ r. ⌜ r ≡ ofZ w64 (h .«correction_field») ⌝ }
 {
     let z = h.correction_field;
     wire::bits64(z)
 }
 
-fn interval_bits(h: Header) -> u8
+pub fn interval_bits(h: Header) -> u8
     ensures { λ r. ⌜ r ≡ ofZ w8 (h .«log_message_interval») ⌝ }
 {
     let z = h.log_message_interval;
