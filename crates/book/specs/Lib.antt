@@ -1,0 +1,4 @@
+-- The definitions and laws of the store.
+pub mod Below
+pub mod Layout
+pub mod Rules

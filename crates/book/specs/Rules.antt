@@ -1,0 +1,117 @@
+-- When the words of a store are a sound book, level by level, and what soundness gives a caller.
+-- Assumes nothing.
+use Prim.Native.Nat.{ℕ, _+_, _-_, _^_, _≤_, _<_}
+use mathlib.Core.Bool.{Bool, true, not, _&&_, _||_, cond}
+use mathlib.Core.List.{List}
+use mathlib.Core.Path.{_≡_}
+use borrow.Author.Tests.{leb-true, ltb-true}
+use lib.Dec.{ltb, leb, eqb}
+use lib.ListN.{length, getD}
+use Rattle.header.specs.declared.PortIdentity.{PortIdentity}
+use Rattle.same.specs.Same.{samePort}
+use Rattle.slot.specs.Blocks.{block}
+use Rattle.history.specs.Rules.{portsMax, mastersMax, messagesMax, listedMax, ageLimit}
+use Rattle.history.specs.Sound.{holdable, follows}
+use Rattle.book.specs.Below.{all, first, first-le, all-at, and₂, and₄}
+use Rattle.book.specs.Layout.{masterWords, portWords, headWords, storeWords, masterAt, portAt, identityOf, messageAt, reads}
+
+-- message k of a master: it may be held, and after the first it follows the one before
+unfoldable pub ruleAt : ℕ → List ℕ → ℕ → Bool
+ruleAt limit m k = holdable reads (identityOf m) limit (messageAt m k) && (eqb k 0 || follows reads (messageAt m (k - 1)) (messageAt m k))
+
+-- a master of this identity
+abbrev pub named : PortIdentity → List ℕ → Bool
+named src m = samePort (identityOf m) src
+
+-- the first master of a port with this identity, or the count
+unfoldable pub place : List ℕ → PortIdentity → ℕ
+place p src = first (getD p 1 0) (λ i. named src (block p (masterAt i) masterWords))
+
+pub place-le : (p : List ℕ) (src : PortIdentity) → place p src ≤ getD p 1 0
+unfolding place
+place-le p src = first-le (λ i. named src (block p (masterAt i) masterWords)) (getD p 1 0)
+
+-- whether the head accepts a clock: any, or one of its list
+unfoldable pub acceptsHead : List ℕ → ℕ → Bool
+acceptsHead h clock = eqb (getD h 2 0) 0 || ltb (first (getD h 3 0) (λ i. eqb (getD h (4 + i) 0) clock)) (getD h 3 0)
+
+unfoldable pub masterSound : List ℕ → ℕ → List ℕ → Bool
+masterSound h limit m =
+    leb 1 (getD m 3 0)
+    && leb (getD m 3 0) messagesMax
+    && not (eqb (getD m 0 0) (getD h 1 0))
+    && acceptsHead h (getD m 0 0)
+    && all (getD m 3 0) (ruleAt limit m)
+
+-- master i of a port is the first of its identity, and sound
+unfoldable pub placed : List ℕ → List ℕ → ℕ → Bool
+placed h p i =
+    eqb (place p (identityOf (block p (masterAt i) masterWords))) i && masterSound h (ageLimit (getD p 0 0)) (block p (masterAt i) masterWords)
+
+unfoldable pub portSound : List ℕ → List ℕ → Bool
+portSound h p = leb 1 (getD p 0 0) && ltb (getD p 0 0) (2 ^ 60) && leb (getD p 1 0) mastersMax && all (getD p 1 0) (placed h p)
+
+abbrev pub portTest : List ℕ → ℕ → Bool
+portTest s q = portSound (block s 0 headWords) (block s (portAt q) portWords)
+
+unfoldable pub soundWords : List ℕ → Bool
+soundWords s =
+    leb 1 (getD s 0 0)
+    && leb (getD s 0 0) portsMax
+    && leb (getD s 3 0) listedMax
+    && all (getD s 0 0) (portTest s)
+
+-- what every call over a store checks first: too short 1, then unsound 16
+unfoldable pub storeRefusal : List ℕ → ℕ
+storeRefusal s = cond (ltb (length s) storeWords) 1 (cond (soundWords s) 0 16)
+
+-- ---- what soundness gives a caller
+
+pub record Held (s : List ℕ) : Type 0 where
+  pub ports : getD s 0 0 ≤ portsMax
+  pub listed : getD s 3 0 ≤ listedMax
+  pub port : (q : ℕ) → q < getD s 0 0 → portTest s q ≡ true
+
+pub record HeldPort (h p : List ℕ) : Type 0 where
+  pub interval : getD p 0 0 < 2 ^ 60
+  pub masters : getD p 1 0 ≤ mastersMax
+  pub master : (i : ℕ) → i < getD p 1 0 → placed h p i ≡ true
+
+pub held : (s : List ℕ) → soundWords s ≡ true → Held s
+unfolding soundWords
+held s sound =
+    let parts = and₄ (leb 1 (getD s 0 0)) (leb (getD s 0 0) portsMax) (leb (getD s 3 0) listedMax) (all (getD s 0 0) (portTest s)) sound in
+    record {
+      ports = leb-true (getD s 0 0) portsMax (parts .1);
+      listed = leb-true (getD s 3 0) listedMax (parts .2);
+      port = λ q h. all-at (portTest s) (getD s 0 0) q h (parts .3);
+    }
+
+pub held-port : (h p : List ℕ) → portSound h p ≡ true → HeldPort h p
+unfolding portSound
+held-port h p sound =
+    let parts = and₄ (leb 1 (getD p 0 0)) (ltb (getD p 0 0) (2 ^ 60)) (leb (getD p 1 0) mastersMax) (all (getD p 1 0) (placed h p)) sound in
+    record {
+      interval = ltb-true (getD p 0 0) (2 ^ 60) (parts .1);
+      masters = leb-true (getD p 1 0) mastersMax (parts .2);
+      master = λ i l. all-at (placed h p) (getD p 1 0) i l (parts .3);
+    }
+
+pub record HeldMaster (limit : ℕ) (m : List ℕ) : Type 0 where
+  pub some : 1 ≤ getD m 3 0
+  pub few : getD m 3 0 ≤ messagesMax
+  pub message : (k : ℕ) → k < getD m 3 0 → ruleAt limit m k ≡ true
+
+pub held-master : (h p : List ℕ) (i : ℕ) → placed h p i ≡ true → HeldMaster (ageLimit (getD p 0 0)) (block p (masterAt i) masterWords)
+unfolding placed masterSound
+held-master h p i sound =
+    let m : List ℕ = block p (masterAt i) masterWords in
+    let limit : ℕ = ageLimit (getD p 0 0) in
+    let s = and₂ (eqb (place p (identityOf m)) i) (masterSound h limit m) sound in
+    let t = and₂ (leb 1 (getD m 3 0) && leb (getD m 3 0) messagesMax && not (eqb (getD m 0 0) (getD h 1 0)) && acceptsHead h (getD m 0 0)) (all (getD m 3 0) (ruleAt limit m)) (s .1) in
+    let u = and₄ (leb 1 (getD m 3 0)) (leb (getD m 3 0) messagesMax) (not (eqb (getD m 0 0) (getD h 1 0))) (acceptsHead h (getD m 0 0)) (t .0) in
+    record {
+      some = leb-true 1 (getD m 3 0) (u .0);
+      few = leb-true (getD m 3 0) messagesMax (u .1);
+      message = λ k l. all-at (ruleAt limit m) (getD m 3 0) k l (t .1);
+    }

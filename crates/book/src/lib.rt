@@ -1,0 +1,304 @@
+// The store that all ports share: its layout, the check that it holds a sound book, and the search for a master.
+ghost use mathlib.Core.Path.{_≡_};
+ghost use Prim.Native.Nat.{_<_, _≤_, _+_, _^_};
+ghost use lib.ListN.{length, getD};
+ghost use lib.Dec.{eqb};
+ghost use Rattle.history.specs.Rules.{mastersMax, messagesMax, listedMax};
+ghost use Rattle.history.specs.Port.{sequence, steps};
+ghost use Rattle.history.specs.Sound.{holdable, follows};
+ghost use Rattle.book.specs.Below.{all, first};
+ghost use Rattle.book.specs.Layout.{
+  masterWords,
+  portWords,
+  headWords,
+  storeWords,
+  identity,
+  identityOf,
+  slotAt,
+  messageAt,
+  reads,
+};
+ghost use Rattle.book.specs.Rules.{
+  ruleAt,
+  named,
+  place,
+  acceptsHead,
+  masterSound,
+  placed,
+  portSound,
+  soundWords,
+  storeRefusal,
+};
+use header::PortIdentity;
+
+// How many ports and masters there is room for; history::MASTERS is how many masters a port may hold.
+pub const PORTS: usize = 8;
+pub const MASTERS_ROOM: usize = 12;
+
+// How many messages a master holds.
+pub const MESSAGES: usize = 8;
+
+// How many clocks the list of acceptable masters holds.
+pub const LISTED: usize = 16;
+
+// A master: clock, port number, first slot, count of messages, slots.
+pub const MASTER_WORDS: usize = 4 + MESSAGES * slot::SLOT_WORDS;
+
+// A port: interval, count of masters, last receipt, a spare word, masters.
+pub const PORT_WORDS: usize = 4 + MASTERS_ROOM * MASTER_WORDS;
+
+// The head: count of ports, own clock, 0 where any master is accepted, length of the list, list.
+pub const HEAD_WORDS: usize = 4 + LISTED;
+
+pub const STORE_WORDS: usize = HEAD_WORDS + PORTS * PORT_WORDS;
+
+// Where message k of a ring starts.
+pub fn slot_at(start: u64, k: usize) -> usize
+    ensures { λ r. ⌜ (r ≡ slotAt start k) × (r + 8 ≤ masterWords) ⌝ }
+{
+    4 + ((start % 8) as usize + k % 8) % 8 * 8
+}
+
+// Three fields of message k of a master.
+
+pub fn age_at(master: &[u64], k: usize) -> u64
+    requires { ⌜ length (now master) ≡ masterWords ⌝ }
+    ensures { λ r. ⌜ r ≡ messageAt (now (master .entry)) k .age ⌝ }
+{
+    let at = slot_at(master[2], k);
+    master[at + 2]
+}
+
+pub fn sequence_at(master: &[u64], k: usize) -> u64
+    requires { ⌜ length (now master) ≡ masterWords ⌝ }
+    ensures { λ r. ⌜ (r ≡ sequence reads (messageAt (now (master .entry)) k)) × (r < 65536) ⌝ }
+{
+    let at = slot_at(master[2], k);
+    master[at + 4] / 65536 / 65536 % 65536
+}
+
+fn steps_at(master: &[u64], k: usize) -> u64
+    requires { ⌜ length (now master) ≡ masterWords ⌝ }
+    ensures { λ r. ⌜ r ≡ steps reads (messageAt (now (master .entry)) k) ⌝ }
+{
+    let at = slot_at(master[2], k);
+    master[at + 4] / 65536 % 65536
+}
+
+// Message k may be held.
+fn message_holdable(master: &[u64], k: usize, limit: u64) -> bool
+    requires { ⌜ length (now master) ≡ masterWords ⌝ }
+    ensures { λ r. ⌜ r ≡ holdable reads (identityOf (now (master .entry))) limit (messageAt (now (master .entry)) k) ⌝ }
+{
+    if steps_at(master, k) < 255 {
+        age_at(master, k) < limit
+    } else {
+        false
+    }
+}
+
+// Message k may follow message j.
+fn message_follows(master: &[u64], j: usize, k: usize) -> bool
+    requires { ⌜ length (now master) ≡ masterWords ⌝ }
+    ensures { λ r. ⌜ r ≡ follows reads (messageAt (now (master .entry)) j) (messageAt (now (master .entry)) k) ⌝ }
+{
+    if age_at(master, k) <= age_at(master, j) {
+        history::in_step(sequence_at(master, j), sequence_at(master, k))
+    } else {
+        false
+    }
+}
+
+fn message_sound(master: &[u64], k: usize, limit: u64) -> bool
+    requires { ⌜ length (now master) ≡ masterWords ⌝ }
+    ensures { λ r. ⌜ r ≡ ruleAt limit (now (master .entry)) k ⌝ }
+{
+    if !message_holdable(master, k, limit) {
+        return false;
+    }
+    if k == 0 {
+        return true;
+    }
+    message_follows(master, k - 1, k)
+}
+
+fn messages_sound(master: &[u64], limit: u64) -> bool
+    requires { ⌜ (length (now master) ≡ masterWords) × (getD (now master) 3 0 ≤ messagesMax) ⌝ }
+    ensures { λ r. ⌜ r ≡ all (getD (now (master .entry)) 3 0) (ruleAt limit (now (master .entry))) ⌝ }
+{
+    let count = master[3] as usize;
+    let mut k = 0;
+    while k < count {
+        if !message_sound(master, k, limit) {
+            return false;
+        }
+        k += 1;
+    }
+    true
+}
+
+// The place of a clock in the list of acceptable masters, or the list's length.
+fn find_clock(head: &[u64], clock: u64) -> usize
+    requires { ⌜ (length (now head) ≡ headWords) × (getD (now head) 3 0 ≤ listedMax) ⌝ }
+    ensures { λ r. ⌜ r ≡ first (getD (now (head .entry)) 3 0) (λ i. eqb (getD (now (head .entry)) (4 + i) 0) clock) ⌝ }
+{
+    let count = head[3] as usize;
+    let mut i = 0;
+    let found = loop {
+        if count <= i {
+            break count;
+        }
+        if head[4 + i] == clock {
+            break i;
+        }
+        i += 1;
+    };
+    found
+}
+
+pub fn acceptable(head: &[u64], clock: u64) -> bool
+    requires { ⌜ (length (now head) ≡ headWords) × (getD (now head) 3 0 ≤ listedMax) ⌝ }
+    ensures { λ r. ⌜ r ≡ acceptsHead (now (head .entry)) clock ⌝ }
+{
+    if head[2] == 0 {
+        return true;
+    }
+    let count = head[3] as usize;
+    find_clock(head, clock) < count
+}
+
+fn is_master(master: &[u64], clock: u64, number: u64) -> bool
+    requires { ⌜ length (now master) ≡ masterWords ⌝ }
+    ensures { λ r. ⌜ r ≡ named (identity clock number) (now (master .entry)) ⌝ }
+{
+    if master[0] == clock {
+        master[1] % 65536 == number
+    } else {
+        false
+    }
+}
+
+// The place of the first master with this identity, or the count of masters.
+pub fn find_master(port: &[u64], clock: u64, number: u64) -> usize
+    requires { ⌜ (length (now port) ≡ portWords) × (getD (now port) 1 0 ≤ mastersMax) ⌝ }
+    ensures { λ r. ⌜ r ≡ place (now (port .entry)) (identity clock number) ⌝ }
+{
+    let count = port[1] as usize;
+    let mut i = 0;
+    let found = loop {
+        if count <= i {
+            break count;
+        }
+        let at = 4 + i * MASTER_WORDS;
+        if is_master(&port[at..at + MASTER_WORDS], clock, number) {
+            break i;
+        }
+        i += 1;
+    };
+    found
+}
+
+fn master_sound(head: &[u64], master: &[u64], limit: u64) -> bool
+    requires { ⌜ (length (now head) ≡ headWords) × (getD (now head) 3 0 ≤ listedMax) × (length (now master) ≡ masterWords) ⌝ }
+    ensures { λ r. ⌜ r ≡ masterSound (now (head .entry)) limit (now (master .entry)) ⌝ }
+{
+    let count = master[3];
+    let clock = master[0];
+    if count < 1 {
+        return false;
+    }
+    if 8 < count {
+        return false;
+    }
+    if clock == head[1] {
+        return false;
+    }
+    if acceptable(head, clock) {
+        messages_sound(master, limit)
+    } else {
+        false
+    }
+}
+
+// Master i of a port is the first of its identity, and sound.
+fn master_placed(head: &[u64], port: &[u64], i: usize) -> bool
+    requires { ⌜ (length (now head) ≡ headWords) × (getD (now head) 3 0 ≤ listedMax) × (length (now port) ≡ portWords) ⌝ }
+    requires { ⌜ (getD (now port) 1 0 ≤ mastersMax) × (getD (now port) 0 0 < 2 ^ 60) × (i < mastersMax) ⌝ }
+    ensures { λ r. ⌜ r ≡ placed (now (head .entry)) (now (port .entry)) i ⌝ }
+{
+    let limit = 4 * port[0];
+    let at = 4 + i * MASTER_WORDS;
+    let master = &port[at..at + MASTER_WORDS];
+    let clock = master[0];
+    let number = master[1] % 65536;
+    if find_master(port, clock, number) == i {
+        master_sound(head, master, limit)
+    } else {
+        false
+    }
+}
+
+fn port_sound(head: &[u64], port: &[u64]) -> bool
+    requires { ⌜ (length (now head) ≡ headWords) × (getD (now head) 3 0 ≤ listedMax) × (length (now port) ≡ portWords) ⌝ }
+    ensures { λ r. ⌜ r ≡ portSound (now (head .entry)) (now (port .entry)) ⌝ }
+{
+    let interval = port[0];
+    let count = port[1] as usize;
+    if interval < 1 {
+        return false;
+    }
+    if 0x1000_0000_0000_0000 <= interval {
+        return false;
+    }
+    if history::MASTERS < count {
+        return false;
+    }
+    let mut i = 0;
+    while i < count {
+        if !master_placed(head, port, i) {
+            return false;
+        }
+        i += 1;
+    }
+    true
+}
+
+// The store holds a sound book.
+fn sound(store: &[u64]) -> bool
+    requires { ⌜ storeWords ≤ length (now store) ⌝ }
+    ensures { λ r. ⌜ r ≡ soundWords (now (store .entry)) ⌝ }
+{
+    let count = store[0] as usize;
+    if count < 1 {
+        return false;
+    }
+    if PORTS < count {
+        return false;
+    }
+    if 16 < store[3] {
+        return false;
+    }
+    let head = &store[0..HEAD_WORDS];
+    let mut q = 0;
+    while q < count {
+        let at = HEAD_WORDS + q * PORT_WORDS;
+        if !port_sound(head, &store[at..at + PORT_WORDS]) {
+            return false;
+        }
+        q += 1;
+    }
+    true
+}
+
+// What every call over a store checks first: 1 where it is too short, 16 where its book is unsound, else 0.
+pub fn check(store: &[u64]) -> u8
+    ensures { λ r. ⌜ r ≡ storeRefusal (now (store .entry)) ⌝ }
+{
+    if store.len() < STORE_WORDS {
+        return 1;
+    }
+    if sound(store) {
+        return 0;
+    }
+    16
+}
