@@ -44,7 +44,7 @@ pub record Whole (a : AnnounceMessage) : Type 0 where
 -- ---- the codec, over the header that the message has and what byte 12 holds
 
 -- what the numbers of the fields mean
-fromValues : Header → List ℕ → AnnounceMessage
+unfoldable pub fromValues : Header → List ℕ → AnnounceMessage
 fromValues h v =
     announceOf h (getD v 0 0) (getD v 1 0) (getD v 2 0) (getD v 4 0) (getD v 5 0) (getD v 6 0) (getD v 7 0) (getD v 8 0)
     (getD v 9 0) (getD v 10 0) (getD v 11 0)
@@ -53,7 +53,8 @@ fit : (reserved : ℕ) → reserved < 256 → (a : AnnounceMessage) → Whole a 
 unfolding Fit contentWidths contentValues
 fit reserved r a w = omega (arith, ofZ-fits w16 (a .«current_utc_offset») (w .typed .offset))
 
-back : (reserved : ℕ) (h : Header) (a : AnnounceMessage) → Whole a → a .header ≡ h → fromValues h (contentValues reserved a) ≡ a
+-- the numbers mean what they were made of
+pub back : (reserved : ℕ) (h : Header) (a : AnnounceMessage) → Whole a → a .header ≡ h → fromValues h (contentValues reserved a) ≡ a
 unfolding fromValues contentValues announceOf announceWith
 back reserved h a w e =
     ap₂

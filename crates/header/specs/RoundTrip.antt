@@ -67,7 +67,7 @@ fromValues v =
       size = getD v 2 0;
     }
 
-abbrev valuesOf : Wired → List ℕ
+abbrev pub valuesOf : Wired → List ℕ
 valuesOf w = headerValues (w .header) (w .type) (w .control) (w .size)
 
 module _ (w : Wired) (v : Valid w) where
@@ -83,7 +83,7 @@ module _ (w : Wired) (v : Valid w) where
       )
 
   -- the numbers mean what they were made of
-  meaning : fromValues (valuesOf w) ≡ w
+  pub meaning : fromValues (valuesOf w) ≡ w
   unfolding fromValues headerValues headerOf headerWith
   meaning =
       let sdo-back : (w .header .«sdo_id» / 256 * 16 + w .type) / 16 * 256 + w .header .«sdo_id» % 256 ≡ w .header .«sdo_id» = omega arith in

@@ -164,11 +164,11 @@ header-back : (h : Header) → header.Whole h
     → headerOf (h .«sdo_id» / 256 * 16 + 11) (h .version .minor * 16 + h .version .major) (h .«domain_number») (h .«sdo_id» % 256) (pack (bits6 h)) (pack (bits7 h))
     (ofZ w64 (h .«correction_field»)) (h .«source_port_identity») (h .«sequence_id») (ofZ w8 (h .«log_message_interval»))
     ≡ h
-unfolding header.headerCodec header.fromValues headerValues
+unfolding header.fromValues headerValues
 header-back h w =
     let wired : header.Wired = record { header = h; type = 11; control = 0; size = 0 } in
     let valid : header.Valid wired = record { whole = w; type-fits = omega arith; control-fits = omega arith; size-fits = omega arith } in
-    ap (λ (x : header.Wired). x .header) (header.headerCodec .back wired valid)
+    ap (λ (x : header.Wired). x .header) (header.meaning wired valid)
 
 -- and so do those of a content
 content-back : (a : AnnounceMessage) → announce.Whole a
@@ -177,8 +177,8 @@ content-back : (a : AnnounceMessage) → announce.Whole a
     (a .«grandmaster_clock_quality» .«offset_scaled_log_variance») (a .«grandmaster_priority_2») (a .«grandmaster_identity»)
     (a .«steps_removed») (a .«time_source»)
     ≡ a
-unfolding announce.contentCodec contentValues
-content-back a w = announce.contentCodec (a .header) 0 (omega arith) .back a (w, refl)
+unfolding announce.fromValues contentValues
+content-back a w = announce.back 0 (a .header) a w refl
 
 -- a message comes back from its words
 pub decode-encode : (m : ForeignAnnounceMessage) → Whole m → decode (m .message .header .«source_port_identity») (encode m) ≡ m
@@ -193,10 +193,10 @@ decode-encode m w =
     let flags7 : pack (bits7 h) < 256 = omega (arith, pack-bound (bits7 h)) in
     let domain : h .«domain_number» < 256 = w .header .typed .domain in
     let sequence : h .«sequence_id» < 65536 = w .header .typed .sequence in
-    let interval : ofZ w8 (h .«log_message_interval») < 256 = ofZ-fits w8 (h .«log_message_interval») (w .header .typed .interval) in
+    let interval : ofZ w8 (h .«log_message_interval») < 256 = ofZ-fits w8 (h .«log_message_interval») (w .header .typed .interval) .fits in
     let seconds : a .«origin_timestamp» .seconds < 2 ^ 48 = omega (arith, w .content .seconds) in
     let nanos : a .«origin_timestamp» .nanos < 2 ^ 32 = w .content .typed .nanos in
-    let utc : ofZ w16 (a .«current_utc_offset») < 65536 = ofZ-fits w16 (a .«current_utc_offset») (w .content .typed .offset) in
+    let utc : ofZ w16 (a .«current_utc_offset») < 65536 = ofZ-fits w16 (a .«current_utc_offset») (w .content .typed .offset) .fits in
     let priority1 : a .«grandmaster_priority_1» < 256 = w .content .typed .priority1 in
     let class : a .«grandmaster_clock_quality» .«clock_class» < 256 = w .content .typed .class in
     let accuracy : a .«grandmaster_clock_quality» .«clock_accuracy» < 256 = w .content .typed .accuracy in
