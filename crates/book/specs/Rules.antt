@@ -3,21 +3,36 @@
 use Prim.Native.Nat.{ℕ, _+_, _-_, _^_, _≤_, _<_}
 use mathlib.Core.Bool.{Bool, true, not, _&&_, _||_, cond}
 use mathlib.Core.List.{List}
-use mathlib.Core.Path.{_≡_}
+use mathlib.Core.Path.{_≡_, ap, _∙_}
 use borrow.Author.Tests.{leb-true, ltb-true}
 use lib.Dec.{ltb, leb, eqb}
 use lib.ListN.{length, getD}
 use Rattle.header.specs.declared.PortIdentity.{PortIdentity}
-use Rattle.same.specs.Same.{samePort}
+use Rattle.same.specs.Same.{samePort, same-port-refl}
 use Rattle.slot.specs.Blocks.{block}
-use Rattle.history.specs.Rules.{portsMax, mastersMax, messagesMax, listedMax, ageLimit}
+use Rattle.slot.specs.Slot.{decode-source}
+use Rattle.history.specs.Rules.{portsMax, mastersMax, messagesMax, listedMax, stepsLimit, ageLimit}
+use Rattle.history.specs.Port.{sender, steps}
 use Rattle.history.specs.Sound.{holdable, follows}
 use Rattle.book.specs.Below.{all, first, first-le, all-at, and₂, and₄}
-use Rattle.book.specs.Layout.{masterWords, portWords, headWords, storeWords, masterAt, portAt, identityOf, messageAt, reads}
+use Rattle.book.specs.Layout.{masterWords, portWords, headWords, storeWords, masterAt, portAt, slotAt, identityOf, messageAt, reads}
 
 -- message k of a master: it may be held, and after the first it follows the one before
 unfoldable pub ruleAt : ℕ → List ℕ → ℕ → Bool
 ruleAt limit m k = holdable reads (identityOf m) limit (messageAt m k) && (eqb k 0 || follows reads (messageAt m (k - 1)) (messageAt m k))
+
+-- the sender of a message is its master, so two tests are left
+sender-same : (m : List ℕ) (k : ℕ) → samePort (sender reads (messageAt m k)) (identityOf m) ≡ true
+unfolding messageAt
+sender-same m k =
+    ap (λ (x : PortIdentity). samePort x (identityOf m)) (decode-source (identityOf m) (block m (slotAt (getD m 2 0) k) 8))
+    ∙ same-port-refl (identityOf m)
+
+pub holdable-word : (limit : ℕ) (m : List ℕ) (k : ℕ)
+    → holdable reads (identityOf m) limit (messageAt m k) ≡ (ltb (steps reads (messageAt m k)) stepsLimit && ltb (messageAt m k .age) limit)
+unfolding holdable
+holdable-word limit m k =
+    ap (λ (b : Bool). b && ltb (steps reads (messageAt m k)) stepsLimit && ltb (messageAt m k .age) limit) (sender-same m k)
 
 -- a master of this identity
 abbrev pub named : PortIdentity → List ℕ → Bool
