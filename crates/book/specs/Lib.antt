@@ -2,3 +2,4 @@
 pub mod Below
 pub mod Layout
 pub mod Rules
+pub mod View

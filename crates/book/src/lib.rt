@@ -33,6 +33,7 @@ use header::PortIdentity;
 
 // How many ports and masters there is room for; history::MASTERS is how many masters a port may hold.
 pub const PORTS: usize = 8;
+
 pub const MASTERS_ROOM: usize = 12;
 
 // How many messages a master holds.
