@@ -9,7 +9,7 @@ pub const MAX_FRAME: usize = 2048;
 /// Answers every line of the input, which holds one of what it is to hold, with a line of the output.
 pub fn run(
     what: &str,
-    answer: impl Fn(&[u8]) -> Option<String>,
+    mut answer: impl FnMut(&[u8]) -> Option<String>,
     input: &mut impl BufRead,
     output: &mut impl Write,
 ) -> Result<(), Error> {
@@ -32,7 +32,7 @@ pub fn run(
 
 /// Writes so many lines as they are made from a seed.
 pub fn make(
-    line: impl Fn(u64, &mut Random) -> Vec<u8>,
+    mut line: impl FnMut(u64, &mut Random) -> Vec<u8>,
     seed: u64,
     count: u64,
     output: &mut impl Write,

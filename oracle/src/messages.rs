@@ -11,13 +11,18 @@ const UNWRITTEN: u8 = 0xa5;
 
 /// The answer to one frame.
 pub fn answer(frame: &[u8]) -> String {
-    if is_other_message(frame) {
-        return "05".to_string();
-    }
-    match Message::deserialize(frame) {
+    match read(frame) {
         Ok(message) => tokens(&message).join(" "),
-        Err(error) => refusal(frame, error).to_string(),
+        Err(refusal) => refusal.to_string(),
     }
+}
+
+/// The announce that a frame holds with its TLVs, or the number of the refusal.
+pub fn read(frame: &[u8]) -> Result<Message<'_>, &'static str> {
+    if is_other_message(frame) {
+        return Err("05");
+    }
+    Message::deserialize(frame).map_err(|error| refusal(frame, error))
 }
 
 /// Whether a frame passes the checks before the body and is no announce. The crate reads the body

@@ -1,4 +1,4 @@
-// The records of a question about a decision: how they stand in a line, and what they are in the crate.
+// The records of a question: how they stand in a line, and what they are in the crate.
 
 use crate::bmc::bmca::BestAnnounceMessage;
 use crate::bmc::dataset_comparison::ComparisonDataset;
@@ -18,8 +18,9 @@ const FRAME: usize = HEADER + CONTENT;
 /// The most candidates of a line.
 const MAX_CANDIDATES: u16 = 48;
 
-/// Every age is below this.
+/// Every age and every step of it is below this, and every interval below that.
 const AGE_LIMIT: i64 = 1 << 62;
+const INTERVAL_LIMIT: i64 = 1 << 60;
 
 /// What is left of a line.
 pub struct Rest<'a>(pub &'a [u8]);
@@ -48,7 +49,7 @@ impl Rest<'_> {
         self.take().map(u16::from_be_bytes)
     }
 
-    fn identity(&mut self) -> Option<ClockIdentity> {
+    pub fn identity(&mut self) -> Option<ClockIdentity> {
         self.take().map(ClockIdentity)
     }
 
@@ -67,11 +68,21 @@ impl Rest<'_> {
         })
     }
 
-    /// An age in units of 2^-16 ns.
-    fn age(&mut self) -> Option<Duration> {
-        let age = self.take().map(i64::from_be_bytes)?;
-        let interval = TimeInterval(I48F16::from_bits(age));
-        (0..AGE_LIMIT).contains(&age).then(|| interval.into())
+    /// A number of units of 2^-16 ns from a least one up to a limit.
+    fn units(&mut self, least: i64, limit: i64) -> Option<TimeInterval> {
+        let units = self.take().map(i64::from_be_bytes)?;
+        let interval = TimeInterval(I48F16::from_bits(units));
+        (least..limit).contains(&units).then_some(interval)
+    }
+
+    /// An age, or a step of it, in units of 2^-16 ns.
+    pub fn age(&mut self) -> Option<Duration> {
+        self.units(0, AGE_LIMIT).map(Duration::from)
+    }
+
+    /// The interval of a port in units of 2^-16 ns.
+    pub fn interval(&mut self) -> Option<TimeInterval> {
+        self.units(1, INTERVAL_LIMIT)
     }
 
     /// Our own data: identity, priority 1, quality, priority 2.
