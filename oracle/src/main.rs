@@ -2,6 +2,7 @@
 #![allow(dead_code, unused)]
 
 mod bmc;
+mod books;
 mod candidates;
 mod codec;
 mod config;
@@ -30,14 +31,15 @@ usage: oracle codec                      answer frames: header and announce
        oracle messages                   answer frames: messages with their TLVs
        oracle kinds                      write what each number of a TLV type is
        oracle decisions                  answer comparisons, choices and decisions
+       oracle books                      answer what ports hear and hold
        oracle frames SEED COUNT          write COUNT frames
        oracle tlv-frames SEED COUNT      write COUNT frames with TLVs
        oracle decision-lines SEED COUNT  write COUNT lines for decisions
        oracle --help                     this text
 
-codec, messages and decisions read standard input: each line 0 to 2,048 bytes in
-hexadecimal digits, for codec and messages a frame. They write a line for each.
-All numbers are lower-case hexadecimal.
+codec, messages, decisions and books read standard input: each line 0 to 2,048
+bytes in hexadecimal digits, for codec and messages a frame. They write a line
+for each. All numbers are lower-case hexadecimal.
 
 codec: 01 (too few bytes) or 02 (unknown type), or 00, the header's fields and
 the header written again; for an announce then 01 (too few bytes), or 00, its
@@ -77,6 +79,28 @@ which message or data that carries: the message's place as four digits, or our
 priority 1 and class. 04 is answered with the number of the state and all that
 it carries: OWN, or the message written again over zeros. - stands for none.
 
+books: the first byte of a line says what is done. The first line is a 00.
+  00 CLOCK RULE LENGTH LISTED.. INTERVAL..   a fresh start
+  01 PORT FRAME                              a frame at a port
+  02 STEP                                    a step of age at all ports
+  03                                         nothing: the book is told in full
+  CLOCK     our clock's identity (8 bytes)
+  RULE      00 any sender is acceptable, 01 the clocks of the list are
+  LENGTH    how many LISTED (8 bytes each) there are: 00 to 10
+  INTERVAL  a port's (8 bytes), 1 to 2^60 - 1; 1 to 8 of them, port 1 first
+  PORT      a byte, from 01 on
+  FRAME     any bytes up to the end of the line
+  STEP      8 bytes, below 2^62
+Intervals, steps and ages are in units of 2^-16 ns. 00 is answered with 00 and
+the book; 02 with 00, how many messages aged out and the book; 03 with the book
+alone. 01 is answered as messages tells a refusal, or with 00, 1 if the crate
+says true, how many messages were evicted, and the book.
+The book has a | for each port and then its masters: clock (16 digits), a dot
+and port (4 digits), followed by the master's messages: sequence (4 digits), age
+and content with colons between. The content is the hash FNV-1a (8 digits) of
+the 64 bytes of the message, written again over zeros; for 03 it is those bytes.
+Ages and counts have no leading zeros.
+
 frames, tlv-frames and decision-lines write the same for the same SEED. SEED and
 COUNT are decimal numbers below 2^64.
 
@@ -95,6 +119,10 @@ fn main() -> ExitCode {
         ["codec"] => answer("frame", |frame| Some(codec::answer(frame)), &mut output),
         ["messages"] => answer("frame", |frame| Some(messages::answer(frame)), &mut output),
         ["decisions"] => answer("question", decisions::answer, &mut output),
+        ["books"] => {
+            let mut book = books::Book::new();
+            answer("line of a book", |line| book.answer(line), &mut output)
+        }
         ["kinds"] => kinds::run(&mut output),
         [name @ ("frames" | "tlv-frames" | "decision-lines"), seed, count] => {
             let (Ok(seed), Ok(count)) = (seed.parse(), count.parse()) else {
@@ -110,7 +138,7 @@ fn main() -> ExitCode {
         [name @ ("frames" | "tlv-frames" | "decision-lines"), ..] => {
             return bad_usage(&format!("{name} takes SEED and COUNT"))
         }
-        [name @ ("codec" | "messages" | "kinds" | "decisions"), ..] => {
+        [name @ ("codec" | "messages" | "kinds" | "decisions" | "books"), ..] => {
             return bad_usage(&format!("{name} takes no arguments"))
         }
         [] => return bad_usage("no subcommand"),
@@ -126,7 +154,7 @@ fn main() -> ExitCode {
 /// Answers the lines of standard input.
 fn answer(
     what: &str,
-    answer: fn(&[u8]) -> Option<String>,
+    answer: impl FnMut(&[u8]) -> Option<String>,
     output: &mut impl Write,
 ) -> Result<(), Error> {
     lines::run(what, answer, &mut stdin().lock(), output)

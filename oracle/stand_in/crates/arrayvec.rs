@@ -11,18 +11,30 @@ impl<T> CapacityError<T> {
 }
 
 #[derive(Debug)]
-pub struct ArrayVec<T, const CAP: usize>(Vec<T>);
+pub struct ArrayVec<T, const CAP: usize> {
+    entries: Vec<T>,
+    taken: usize,
+}
 
 impl<T, const CAP: usize> ArrayVec<T, CAP> {
     pub fn new() -> Self {
-        Self(Vec::new())
+        Self {
+            entries: Vec::new(),
+            taken: 0,
+        }
+    }
+
+    /// How many entries were ever taken in, which arrayvec does not tell.
+    pub fn taken(&self) -> usize {
+        self.taken
     }
 
     pub fn try_push(&mut self, element: T) -> Result<(), CapacityError<T>> {
-        if self.0.len() == CAP {
+        if self.entries.len() == CAP {
             return Err(CapacityError(element));
         }
-        self.0.push(element);
+        self.entries.push(element);
+        self.taken += 1;
         Ok(())
     }
 
@@ -33,11 +45,11 @@ impl<T, const CAP: usize> ArrayVec<T, CAP> {
     }
 
     pub fn remove(&mut self, index: usize) -> T {
-        self.0.remove(index)
+        self.entries.remove(index)
     }
 
     pub fn retain(&mut self, keep: impl FnMut(&mut T) -> bool) {
-        self.0.retain_mut(keep);
+        self.entries.retain_mut(keep);
     }
 }
 
@@ -45,13 +57,13 @@ impl<T, const CAP: usize> Deref for ArrayVec<T, CAP> {
     type Target = [T];
 
     fn deref(&self) -> &[T] {
-        &self.0
+        &self.entries
     }
 }
 
 impl<T, const CAP: usize> DerefMut for ArrayVec<T, CAP> {
     fn deref_mut(&mut self) -> &mut [T] {
-        &mut self.0
+        &mut self.entries
     }
 }
 
@@ -60,7 +72,7 @@ impl<T, const CAP: usize> IntoIterator for ArrayVec<T, CAP> {
     type IntoIter = std::vec::IntoIter<T>;
 
     fn into_iter(self) -> Self::IntoIter {
-        self.0.into_iter()
+        self.entries.into_iter()
     }
 }
 
@@ -69,6 +81,6 @@ impl<'a, T, const CAP: usize> IntoIterator for &'a mut ArrayVec<T, CAP> {
     type IntoIter = std::slice::IterMut<'a, T>;
 
     fn into_iter(self) -> Self::IntoIter {
-        self.0.iter_mut()
+        self.entries.iter_mut()
     }
 }

@@ -1,0 +1,171 @@
+// The subcommand books: what the crate holds of the announces of several ports, from one fresh start to the next.
+
+use crate::bmc::acceptable_master::AcceptableMasterList;
+use crate::bmc::bmca::Bmca;
+use crate::bmc::foreign_master::ForeignMaster;
+use crate::datastructures::common::{ClockIdentity, PortIdentity, TimeInterval};
+use crate::datastructures::messages::{AnnounceMessage, MessageBody};
+use crate::lines::{hex, sign};
+use crate::messages::read;
+use crate::records::{message_bytes, Rest};
+use crate::time::Duration;
+
+/// The most ports, and the most clocks of a list.
+pub const MAX_PORTS: usize = 8;
+pub const MAX_LISTED: usize = 16;
+
+/// Which senders are acceptable: any, or those of a list.
+#[derive(Clone)]
+enum Acceptable {
+    Any,
+    Listed(Vec<ClockIdentity>),
+}
+
+impl AcceptableMasterList for Acceptable {
+    fn is_acceptable(&self, identity: ClockIdentity) -> bool {
+        match self {
+            Self::Any => true,
+            Self::Listed(list) => list.contains(&identity),
+        }
+    }
+}
+
+/// One list of masters for each port, port 1 first; none before the first fresh start.
+pub struct Book(Vec<Bmca<Acceptable>>);
+
+impl Book {
+    pub fn new() -> Self {
+        Self(Vec::new())
+    }
+
+    /// The masters of a port, which is counted from 0 here.
+    pub fn masters(&self, port: usize) -> &[ForeignMaster] {
+        &self.0[port].foreign_master_list.foreign_masters
+    }
+
+    /// The answer to one line, if it has the shape of one.
+    pub fn answer(&mut self, line: &[u8]) -> Option<String> {
+        let mut rest = Rest(line);
+        match rest.byte()? {
+            0 => self.start(rest),
+            1 => self.register(rest.byte()?, rest.0),
+            2 => {
+                let step = rest.age()?;
+                rest.0.is_empty().then(|| self.age(step))
+            }
+            3 => rest.0.is_empty().then(|| self.told(in_full)),
+            _ => return None,
+        }
+        .filter(|_| !self.0.is_empty())
+    }
+
+    /// A fresh start: our clock, the rule and its list, and an interval for each port.
+    fn start(&mut self, mut rest: Rest) -> Option<String> {
+        let own = rest.identity()?;
+        let listed = rest.flag()?;
+        let count = usize::from(rest.byte()?);
+        let list = (0..count).map(|_| rest.identity()).collect::<Option<_>>()?;
+        let rule = if listed {
+            Acceptable::Listed(list)
+        } else {
+            Acceptable::Any
+        };
+        let mut ports = Vec::new();
+        while !rest.0.is_empty() {
+            let identity = PortIdentity {
+                clock_identity: own,
+                port_number: ports.len() as u16 + 1,
+            };
+            ports.push(Bmca::new(rule.clone(), rest.interval()?, identity));
+        }
+        if count > MAX_LISTED || ports.len() > MAX_PORTS {
+            return None;
+        }
+        self.0 = ports;
+        Some(format!("00 {}", self.told(in_short)))
+    }
+
+    /// A frame at a port: whether the crate says yes, and how many messages it put out.
+    fn register(&mut self, port: u8, frame: &[u8]) -> Option<String> {
+        let (held, taken) = (self.held(), self.taken());
+        let receiver = self.0.get_mut(usize::from(port).checked_sub(1)?)?;
+        let message = match read(frame) {
+            Ok(message) => message,
+            Err(refusal) => return Some(refusal.to_string()),
+        };
+        let MessageBody::Announce(announce) = message.body else {
+            panic!("another message than an announce is refused");
+        };
+        let yes = receiver.register_announce_message(&message.header, &announce);
+        let evicted = held + (self.taken() - taken) - self.held();
+        let told = self.told(in_short);
+        Some(format!("00 {} {evicted:x} {told}", sign(yes)))
+    }
+
+    /// A step of age at all ports: how many messages it put out.
+    fn age(&mut self, step: Duration) -> String {
+        let held = self.held();
+        for port in &mut self.0 {
+            port.step_age(step);
+        }
+        let aged_out = held - self.held();
+        format!("00 {aged_out:x} {}", self.told(in_short))
+    }
+
+    fn all_masters(&self) -> impl Iterator<Item = &ForeignMaster> {
+        (0..self.0.len()).flat_map(|port| self.masters(port))
+    }
+
+    /// How many messages are held.
+    fn held(&self) -> usize {
+        self.all_masters()
+            .map(|master| master.announce_messages.len())
+            .sum()
+    }
+
+    /// How many messages the masters held now have ever taken in.
+    fn taken(&self) -> usize {
+        self.all_masters()
+            .map(|master| master.announce_messages.taken())
+            .sum()
+    }
+
+    /// All that is held, each message's content in these words.
+    fn told(&self, content: fn(&AnnounceMessage) -> String) -> String {
+        let mut tokens = Vec::new();
+        for port in 0..self.0.len() {
+            tokens.push("|".to_string());
+            for master in self.masters(port) {
+                let identity = master.foreign_master_port_identity;
+                let clock = hex(&identity.clock_identity.0);
+                tokens.push(format!("{clock}.{:04x}", identity.port_number));
+                let messages = master.announce_messages.iter();
+                tokens.extend(messages.map(|message| {
+                    let (sequence, age) = (message.header.sequence_id, units(message.age));
+                    format!("{sequence:04x}:{age:x}:{}", content(&message.message))
+                }));
+            }
+        }
+        tokens.join(" ")
+    }
+}
+
+/// A length of time in units of 2^-16 ns.
+pub fn units(time: Duration) -> u64 {
+    TimeInterval::from(time).0.to_bits() as u64
+}
+
+/// A message as the hash FNV-1a of 32 bits over its bytes.
+fn in_short(message: &AnnounceMessage) -> String {
+    let hash = message_bytes(message)
+        .iter()
+        .fold(0x811c_9dc5_u32, |hash, byte| {
+            (hash ^ u32::from(*byte)).wrapping_mul(0x0100_0193)
+        });
+    format!("{hash:08x}")
+}
+
+/// A message as its bytes.
+fn in_full(message: &AnnounceMessage) -> String {
+    hex(&message_bytes(message))
+}
