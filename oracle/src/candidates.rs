@@ -68,7 +68,7 @@ pub fn put(record: &mut [u8], (start, width): Field, value: u64) {
 }
 
 /// Another value of so many bits: the next, the one before, or one bit apart.
-fn near(value: u64, width: usize, random: &mut Random) -> u64 {
+pub fn near(value: u64, width: usize, random: &mut Random) -> u64 {
     let other = match random.below(4) {
         0 => value.wrapping_add(1),
         1 => value.wrapping_sub(1),
@@ -101,7 +101,7 @@ fn profile(random: &mut Random) -> Profile {
 }
 
 /// A small number, one with only a high bit, or any.
-fn identity(random: &mut Random) -> u64 {
+pub fn identity(random: &mut Random) -> u64 {
     match random.below(4) {
         0 => random.below(8) as u64,
         1 => 1 << (56 + random.below(8)),

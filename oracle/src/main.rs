@@ -2,6 +2,8 @@
 #![allow(dead_code, unused)]
 
 mod bmc;
+mod book_lines;
+mod book_worlds;
 mod books;
 mod candidates;
 mod codec;
@@ -35,6 +37,7 @@ usage: oracle codec                      answer frames: header and announce
        oracle frames SEED COUNT          write COUNT frames
        oracle tlv-frames SEED COUNT      write COUNT frames with TLVs
        oracle decision-lines SEED COUNT  write COUNT lines for decisions
+       oracle book-lines SEED COUNT      write COUNT lines for books
        oracle --help                     this text
 
 codec, messages, decisions and books read standard input: each line 0 to 2,048
@@ -101,8 +104,8 @@ and content with colons between. The content is the hash FNV-1a (8 digits) of
 the 64 bytes of the message, written again over zeros; for 03 it is those bytes.
 Ages and counts have no leading zeros.
 
-frames, tlv-frames and decision-lines write the same for the same SEED. SEED and
-COUNT are decimal numbers below 2^64.
+frames, tlv-frames, decision-lines and book-lines write the same for the same
+SEED. SEED and COUNT are decimal numbers below 2^64.
 
 exit: 0 done, 1 reading or writing failed, 2 bad usage or a line of another shape
 ";
@@ -124,18 +127,20 @@ fn main() -> ExitCode {
             answer("line of a book", |line| book.answer(line), &mut output)
         }
         ["kinds"] => kinds::run(&mut output),
-        [name @ ("frames" | "tlv-frames" | "decision-lines"), seed, count] => {
+        [name @ ("frames" | "tlv-frames" | "decision-lines" | "book-lines"), seed, count] => {
             let (Ok(seed), Ok(count)) = (seed.parse(), count.parse()) else {
                 return bad_usage("SEED and COUNT are decimal numbers below 2^64");
             };
-            let line: fn(u64, &mut Random) -> Vec<u8> = match name {
-                "frames" => |index, random| frames::kept(frames::frame(index, random)),
-                "tlv-frames" => |index, random| frames::kept(tlv_frames::frame(index, random)),
-                _ => decision_lines::line,
+            let mut histories = book_lines::Histories::new();
+            let line = |index, random: &mut Random| match name {
+                "frames" => frames::kept(frames::frame(index, random)),
+                "tlv-frames" => frames::kept(tlv_frames::frame(index, random)),
+                "decision-lines" => decision_lines::line(index, random),
+                _ => histories.line(random),
             };
             lines::make(line, seed, count, &mut output)
         }
-        [name @ ("frames" | "tlv-frames" | "decision-lines"), ..] => {
+        [name @ ("frames" | "tlv-frames" | "decision-lines" | "book-lines"), ..] => {
             return bad_usage(&format!("{name} takes SEED and COUNT"))
         }
         [name @ ("codec" | "messages" | "kinds" | "decisions" | "books"), ..] => {

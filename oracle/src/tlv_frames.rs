@@ -51,13 +51,13 @@ pub fn frame(index: u64, random: &mut Random) -> Vec<u8> {
 }
 
 /// A good announce with 0 to 6 entries.
-fn good(random: &mut Random) -> Vec<u8> {
+pub fn good(random: &mut Random) -> Vec<u8> {
     let list = entries(6, random);
     message(&list, random)
 }
 
 /// An announce with a list of TLVs.
-fn message(list: &[u8], random: &mut Random) -> Vec<u8> {
+pub fn message(list: &[u8], random: &mut Random) -> Vec<u8> {
     let mut frame = announce(random);
     frame.truncate(ANNOUNCE_SIZE);
     frame.extend(list);
@@ -199,7 +199,7 @@ fn wrong_length(turn: usize, random: &mut Random) -> Vec<u8> {
 }
 
 /// Padding behind a good announce: any bytes, or what would be a damaged list.
-fn padded(turn: usize, random: &mut Random) -> Vec<u8> {
+pub fn padded(turn: usize, random: &mut Random) -> Vec<u8> {
     let mut frame = good(random);
     let count = 1 + random.below(16);
     match turn % 3 {
