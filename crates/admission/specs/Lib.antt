@@ -1,2 +1,3 @@
 -- The definitions and laws of taking a message into the book.
+pub mod Refusal
 pub mod Admit

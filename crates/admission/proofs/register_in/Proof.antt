@@ -27,7 +27,7 @@ part-register-at-end : tie.Need-part-register-at-end
 part-register-at-end c = omega (arith, held (c .before .args .store .now) (c .before .pre .0 .1))
 
 register-at-requires : tie.Need-register-at-requires
-register-at-requires c κs =     let s = c .before .before .args .store .now in
+register-at-requires c κs = let s = c .before .before .args .store .now in
     let q = c .before .before .args .q in
     let pre = c .before .before .pre in
     let h = held s (pre .0 .1) in
