@@ -3,3 +3,5 @@ pub mod Rules
 pub mod Port
 pub mod Book
 pub mod Sound
+pub mod Tests
+pub mod Parts
