@@ -5,3 +5,5 @@ pub mod Book
 pub mod Sound
 pub mod Tests
 pub mod Parts
+pub mod Messages
+pub mod Kept

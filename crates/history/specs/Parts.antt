@@ -49,7 +49,9 @@ module _ {A : Type 0} (R : Reads A) where
   unfolding soundMaster
   master-sound S limit M p =
       together
-      (together (together (together (le-leb 1 (length (M .messages)) (p .some)) (le-leb (length (M .messages)) messagesMax (p .few))) (ap not (p .foreign))) (p .accepted))
+      (together
+      (together (together (le-leb 1 (length (M .messages)) (p .some)) (le-leb (length (M .messages)) messagesMax (p .few))) (ap not (p .foreign)))
+      (p .accepted))
       (p .messages)
 
   -- a sound port
