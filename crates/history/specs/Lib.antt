@@ -9,3 +9,4 @@ pub mod Messages
 pub mod Kept
 pub mod Aged
 pub mod Lines
+pub mod Found

@@ -119,7 +119,7 @@ module _ {A : Type 0} (R : Reads A) where
   -- Age 4 x interval - 1 kept; 4 x interval dropped: a message m anywhere on a port, between the messages xs and ys.
   abbrev pub Ages : Type 0
   Ages =
-      (step : ℕ) (P : Port A) (xs : List A) (m : A) (ys : List A) → heldBy (P .masters) ≡ xs ++ (m ∷ ys) → 1 ≤ P .interval
+      Lawful R → (step : ℕ) (P : Port A) (xs : List A) (m : A) (ys : List A) → heldBy (P .masters) ≡ xs ++ (m ∷ ys) → 1 ≤ P .interval
       → let stay = remaining R step (4 * P .interval) in
       let go = leaving R step (4 * P .interval) in
       (R .age m + step ≡ 4 * P .interval - 1 → Leaves step P (stay xs ++ (older R step m ∷ stay ys)) (go xs ++ go ys))
@@ -131,7 +131,7 @@ module _ {A : Type 0} (R : Reads A) where
 
   abbrev pub AgesAlone : Type 0
   AgesAlone =
-      (step n : ℕ) (src : PortIdentity) (m : A) → 1 ≤ n
+      Lawful R → (step n : ℕ) (src : PortIdentity) (m : A) → 1 ≤ n
       → (R .age m + step ≡ 4 * n - 1 → agePort R step (alone n src m) .port ≡ alone n src (older R step m))
       × (R .age m + step ≡ 4 * n → agePort R step (alone n src m) .port ≡ freshPort n)
 
@@ -157,7 +157,7 @@ module _ {A : Type 0} (R : Reads A) where
         out-aged R step P ∙ ap go e ∙ leaving-append R step limit xs (m ∷ ys) ∙ ap (λ c. go xs ++ cond (not c) (older R step m ∷ go ys) (go ys)) y,
       )
 
-  pub ages : Lawful R → Ages
+  pub ages : Ages
   ages law step P xs m ys e h = (
     λ a. placed step P xs m ys e true (stays law step (4 * P .interval) m (omega (arith, a, h))),
     λ a. placed step P xs m ys e false (goes law step (4 * P .interval) m (omega (arith, a))),
@@ -169,7 +169,7 @@ module _ {A : Type 0} (R : Reads A) where
   alone-after step n src m true y = simp y
   alone-after step n src m false y = simp y
 
-  pub ages-alone : Lawful R → AgesAlone
+  pub ages-alone : AgesAlone
   ages-alone law step n src m h = (
     λ a. alone-after step n src m true (stays law step (4 * n) m (omega (arith, a, h))),
     λ a. alone-after step n src m false (goes law step (4 * n) m (omega (arith, a))),
