@@ -85,7 +85,7 @@ module _ {A : Type 0} (R : Reads A) where
 
   in-order : (S : Site) (k d : ℕ) (m : A) (P : Port A) → d < 32767 → Follows S k d m P → steps R m < 255 → refusal R S k m P ≡ 0
   in-order S k d m P h f t =
-      taken S k m P (f .welcome) (order-of S k d m P f (omega arith) ∙ lt-ltb d 32767 h) t
+      taken S k m P (f .welcome) (order-of S k d m P f (omega arith) ∙ lt-ltb d 32767 h) (omega (arith, t))
       (ap (λ b. not b && leb mastersMax (length (P .masters))) (listed-known (sender R m) (P .masters) (f .first) (f .rest) (f .list)))
 
   out-of-order : (S : Site) (k d : ℕ) (m : A) (P : Port A) → 32767 ≤ d → d < 65536 → Follows S k d m P → refusal R S k m P ≡ 10
