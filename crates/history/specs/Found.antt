@@ -32,10 +32,10 @@ module _ {A : Type 0} (src : PortIdentity) (m : A) where
   unfolding push
   admit-own [] = ap (λ b. cond b (m ∷ []) []) (same-port-refl src)
   admit-own (M ∷ Ms) =
-      by (λ b. samePort (M .source) src ≡ b → listOf src (cond b (with M (push (M .messages) m) ∷ Ms) (M ∷ admit src m Ms)) ≡ push (cond b (M .messages) (listOf src Ms)) m)
+      by (λ b. listOf src (cond b (with M (push (M .messages) m) ∷ Ms) (M ∷ admit src m Ms)) ≡ push (cond b (M .messages) (listOf src Ms)) m)
       (samePort (M .source) src)
-      (λ y e. ap (λ b. cond b (push (M .messages) m) (listOf src Ms)) e)
-      (λ y e. ap (λ b. cond b (M .messages) (listOf src (admit src m Ms))) e ∙ admit-own Ms) refl
+      (λ y. ap (λ b. cond b (push (M .messages) m) (listOf src Ms)) y)
+      (λ y. ap (λ b. cond b (M .messages) (listOf src (admit src m Ms))) y ∙ admit-own Ms)
 
   -- another's
   admit-other : (other : PortIdentity) → samePort src other ≡ false → (Ms : List (Master A)) → listOf other (admit src m Ms) ≡ listOf other Ms
