@@ -76,40 +76,47 @@ words h a age receipt =
 unfoldable pub encode : ForeignAnnounceMessage → List ℕ
 encode m = words (m .message .header) (m .message) (m .age) (m .receipt)
 
--- the header of eight words, of the sender that is given
-abbrev pub headerIn : PortIdentity → List ℕ → Header
-headerIn source w =
+-- the header that the words 1, 4, 5, 6 and 7 hold, of the sender that is given
+abbrev pub headerIn : PortIdentity → (correction counts quality origin rest : ℕ) → Header
+headerIn source w1 w4 w5 w6 w7 =
     headerOf
-    (getD w 6 0 / 256 % 256)
-    (getD w 7 0 / 256 % 256)
-    (getD w 7 0 % 256)
-    (getD w 6 0 % 256)
-    (getD w 7 0 / 256 / 256 / 256 % 256)
-    (getD w 7 0 / 256 / 256 % 256)
-    (getD w 1 0)
+    (w6 / 256 % 256)
+    (w7 / 256 % 256)
+    (w7 % 256)
+    (w6 % 256)
+    (w7 / 256 / 256 / 256 % 256)
+    (w7 / 256 / 256 % 256)
+    w1
     source
-    (getD w 4 0 / 65536 / 65536 % 65536)
-    (getD w 5 0 % 256)
+    (w4 / 65536 / 65536 % 65536)
+    (w5 % 256)
 
--- the message of eight words with a header
-abbrev pub messageIn : Header → List ℕ → AnnounceMessage
-messageIn h w =
+-- the message with a header that the words 0, 4, 5, 6 and 7 hold
+abbrev pub messageIn : Header → (grandmaster counts quality origin rest : ℕ) → AnnounceMessage
+messageIn h w0 w4 w5 w6 w7 =
     announceOf h
-    (getD w 6 0 / 256 / 256 % 2 ^ 48)
-    (getD w 7 0 / 256 / 256 / 256 / 256 % 2 ^ 32)
-    (getD w 4 0 % 65536)
-    (getD w 5 0 / 256 / 256 / 256 / 65536 / 256 / 256 % 256)
-    (getD w 5 0 / 256 / 256 / 256 / 65536 / 256 % 256)
-    (getD w 5 0 / 256 / 256 / 256 / 65536 % 256)
-    (getD w 5 0 / 256 / 256 / 256 % 65536)
-    (getD w 5 0 / 256 / 256 % 256)
-    (getD w 0 0)
-    (getD w 4 0 / 65536 % 65536)
-    (getD w 5 0 / 256 % 256)
+    (w6 / 256 / 256 % 2 ^ 48)
+    (w7 / 256 / 256 / 256 / 256 % 2 ^ 32)
+    (w4 % 65536)
+    (w5 / 256 / 256 / 256 / 65536 / 256 / 256 % 256)
+    (w5 / 256 / 256 / 256 / 65536 / 256 % 256)
+    (w5 / 256 / 256 / 256 / 65536 % 256)
+    (w5 / 256 / 256 / 256 % 65536)
+    (w5 / 256 / 256 % 256)
+    w0
+    (w4 / 65536 % 65536)
+    (w5 / 256 % 256)
 
 -- the held message of eight words
 unfoldable pub decode : PortIdentity → List ℕ → ForeignAnnounceMessage
-decode source w = record { message = messageIn (headerIn source w) w; age = getD w 2 0; receipt = getD w 3 0 }
+decode source w =
+    record {
+      message =
+          messageIn (headerIn source (getD w 1 0) (getD w 4 0) (getD w 5 0) (getD w 6 0) (getD w 7 0))
+          (getD w 0 0) (getD w 4 0) (getD w 5 0) (getD w 6 0) (getD w 7 0);
+      age = getD w 2 0;
+      receipt = getD w 3 0;
+    }
 
 -- a message takes eight words
 pub length-encode : (m : ForeignAnnounceMessage) → length (encode m) ≡ 8
