@@ -1,0 +1,3 @@
+-- The definitions and laws of ageing.
+pub mod Age
+pub mod AgeLaws
