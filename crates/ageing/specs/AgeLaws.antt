@@ -10,15 +10,15 @@ use native.Mathlib.Nat.{eq-or-lt-of-le, le-of-suc-le-suc, not-suc-le-zero}
 use borrow.Author.Tests.{le-leb, lt-leb}
 use lib.Dec.{leb}
 use lib.ListN.{length, take, drop, getD, length-set, length-drop}
-use lib.Seq.{getD-drop, paste, drop-paste}
+use lib.Seq.{getD-set-other, getD-drop, paste, drop-paste}
 use Rattle.wire.specs.Be.{put}
 use Rattle.wire.specs.BeLaws.{length-put, getD-put-before}
 use Rattle.slot.specs.Blocks.{block, length-block, getD-block, grid-same, grid-other}
 use Rattle.history.specs.Rules.{mastersMax}
 use Rattle.history.specs.Port.{young}
 use Rattle.book.specs.Below.{first-le}
-use Rattle.book.specs.Layout.{portWords, masterWords, masterAt, messageAt, reads}
-use Rattle.ageing.specs.Age.{olderAt, olderTo, stale, agedMaster, agedTo, occupied, Packing, moved, packStep}
+use Rattle.book.specs.Layout.{portWords, masterWords, slotAt, masterAt, messageAt, reads}
+use Rattle.ageing.specs.Age.{olderAt, olderTo, stale, gone, agedMaster, agedTo, occupied, Packing, moved, packStep}
 
 -- ---- a copy of words
 
@@ -47,10 +47,24 @@ unfolding olderAt
 length-olderTo step zero w = refl
 length-olderTo step (suc n) w = length-set (olderTo step n w) _ _ ∙ length-olderTo step n w
 
+-- its words before the slots stay
+pub olderTo-word : (step n : ℕ) (w : List ℕ) (i : ℕ) → i < 4 → getD (olderTo step n w) i 0 ≡ getD w i 0
+unfolding olderAt
+olderTo-word step zero w i h = refl
+olderTo-word step (suc n) w i h =
+    let v : List ℕ = olderTo step n w in
+    getD-set-other v (slotAt (getD v 2 0) n + 2) i _ 0 (λ q. omega arith) ∙ olderTo-word step n w i h
+
 -- no more go than there are
 pub stale-le : (limit : ℕ) (w : List ℕ) → stale limit w ≤ getD w 3 0
 unfolding stale
 stale-le limit w = first-le (λ k. young reads limit (messageAt w k)) (getD w 3 0)
+
+pub gone-le : (step limit : ℕ) (w : List ℕ) → gone step limit w ≤ getD w 3 0
+unfolding gone
+gone-le step limit w =
+    let v : List ℕ = olderTo step (getD w 3 0) w in
+    omega (arith, stale-le limit v, olderTo-word step (getD w 3 0) w 3 (omega arith))
 
 pub length-agedMaster : (step limit : ℕ) (w : List ℕ) → length (agedMaster step limit w) ≡ length w
 unfolding agedMaster
