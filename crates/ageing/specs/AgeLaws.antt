@@ -48,12 +48,13 @@ length-olderTo step zero w = refl
 length-olderTo step (suc n) w = length-set (olderTo step n w) _ _ ∙ length-olderTo step n w
 
 -- its words before the slots stay
-pub olderTo-word : (step n : ℕ) (w : List ℕ) (i : ℕ) → i < 4 → getD (olderTo step n w) i 0 ≡ getD w i 0
+pub olderAt-word : (step k : ℕ) (w : List ℕ) (i : ℕ) → i < 4 → getD (olderAt step k w) i 0 ≡ getD w i 0
 unfolding olderAt
+olderAt-word step k w i h = getD-set-other w (slotAt (getD w 2 0) k + 2) i _ 0 (λ q. omega arith)
+
+pub olderTo-word : (step n : ℕ) (w : List ℕ) (i : ℕ) → i < 4 → getD (olderTo step n w) i 0 ≡ getD w i 0
 olderTo-word step zero w i h = refl
-olderTo-word step (suc n) w i h =
-    let v : List ℕ = olderTo step n w in
-    getD-set-other v (slotAt (getD v 2 0) n + 2) i _ 0 (λ q. omega arith) ∙ olderTo-word step n w i h
+olderTo-word step (suc n) w i h = olderAt-word step n (olderTo step n w) i h ∙ olderTo-word step n w i h
 
 -- no more go than there are
 pub stale-le : (limit : ℕ) (w : List ℕ) → stale limit w ≤ getD w 3 0

@@ -1,3 +1,4 @@
 -- The definitions and laws of ageing.
 pub mod Age
 pub mod AgeLaws
+pub mod MasterView
