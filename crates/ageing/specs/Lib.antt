@@ -2,3 +2,4 @@
 pub mod Age
 pub mod AgeLaws
 pub mod MasterView
+pub mod PortView
