@@ -3,3 +3,4 @@ pub mod Age
 pub mod AgeLaws
 pub mod MasterView
 pub mod PortView
+pub mod StoreView

@@ -1,0 +1,141 @@
+-- A store's words aged are its book after the call, and the tally is how many messages aged out.
+-- Assumes nothing.
+use Prim.Native.Nat.{ℕ, zero, suc, _+_, _^_, _≤_, _<_}
+use mathlib.Core.Path.{_≡_, refl, sym, ap, ap₂, _∙_}
+use mathlib.Core.Bool.{Bool, true, cond}
+use mathlib.Core.List.{List, [], _∷_, _++_, map}
+use mathlib.Core.Logic.{⊎-elim}
+use native.Mathlib.Omega.{arith}
+use native.Mathlib.Nat.{eq-or-lt-of-le, le-of-suc-le-suc, not-suc-le-zero}
+use borrow.Author.Tests.{lt-ltb}
+use lib.ListN.{length, getD}
+use Rattle.wire.specs.Be.{put}
+use Rattle.wire.specs.BeLaws.{length-put, getD-put-before}
+use Rattle.slot.specs.Blocks.{block, length-block, grid-same, grid-other}
+use Rattle.slot.specs.declared.ForeignAnnounceMessage.{ForeignAnnounceMessage}
+use Rattle.history.specs.Rules.{portsMax, mastersMax, listedMax, ageLimit, stepMax}
+use Rattle.history.specs.Port.{Port, Site, Turn, idle, pass, agePort, turn}
+use Rattle.history.specs.Book.{Book, age, total, turnsFrom, turns, after}
+use Rattle.book.specs.Below.{tab, tab-snoc, tab-ext, map-tab}
+use Rattle.book.specs.Layout.{masterWords, portWords, headWords, storeWords, masterAt, portAt, portOf, siteOf, bookOf, reads}
+use Rattle.book.specs.Rules.{soundWords, held, held-port, HeldPort, held-master, HeldMaster}
+use Rattle.ageing.specs.Age.{RingsFit, agedPort, gonePort, agedPortsTo, gonePortsTo, agedStore, agedOut}
+use Rattle.ageing.specs.PortView.{length-agedPort, port-aged, port-gone}
+
+-- ---- the words
+
+-- what holds after the first n ports of s have been aged
+pub record Aged (step : ℕ) (s : List ℕ) (n : ℕ) (t : List ℕ) : Type 0 where
+  pub size : length t ≡ length s
+  pub word : (j : ℕ) → j < headWords → getD t j 0 ≡ getD s j 0
+  pub later : (i : ℕ) → n ≤ i → i < portsMax → block t (portAt i) portWords ≡ block s (portAt i) portWords
+  pub done : (i : ℕ) → i < n → block t (portAt i) portWords ≡ agedPort step (block s (portAt i) portWords)
+
+-- what soundness says of port q and of its master i
+pub port-held : (s : List ℕ) → soundWords s ≡ true → (q : ℕ) → q < getD s 0 0 → HeldPort (block s 0 headWords) (block s (portAt q) portWords)
+port-held s sound q h = held-port (block s 0 headWords) (block s (portAt q) portWords) (held s sound .port q h)
+
+master-held : (s : List ℕ) → soundWords s ≡ true → (q : ℕ) → q < getD s 0 0 → (i : ℕ) → i < getD (block s (portAt q) portWords) 1 0
+    → HeldMaster (ageLimit (getD (block s (portAt q) portWords) 0 0)) (block (block s (portAt q) portWords) (masterAt i) masterWords)
+master-held s sound q h i l = held-master (block s 0 headWords) (block s (portAt q) portWords) i (port-held s sound q h .master i l)
+
+pub rings-fit : (s : List ℕ) → soundWords s ≡ true → (q : ℕ) → q < getD s 0 0 → RingsFit (block s (portAt q) portWords)
+rings-fit s sound q h i l = master-held s sound q h i l .few
+
+module _ (step : ℕ) (s : List ℕ) (room : storeWords ≤ length s) (sound : soundWords s ≡ true) where
+  next-aged : (n : ℕ) (t : List ℕ) → n < getD s 0 0 → n < portsMax → Aged step s n t
+      → Aged step s (suc n) (put t (portAt n) (agedPort step (block t (portAt n) portWords)))
+  next-aged n t h u a =
+      let w : List ℕ = agedPort step (block t (portAt n) portWords) in
+      let same : block t (portAt n) portWords ≡ block s (portAt n) portWords = a .later n (omega arith) u in
+      let z : length w ≡ portWords =
+      ap (λ (p : List ℕ). length (agedPort step p)) same
+      ∙ length-agedPort step (block s (portAt n) portWords) (length-block s (portAt n) portWords (omega arith)) (port-held s sound n h .masters) in
+      let fits : portAt n + portWords ≤ length t = omega (arith, a .size) in
+      record {
+        size = length-put t (portAt n) w (omega (arith, z)) ∙ a .size;
+        word = λ j l. getD-put-before t (portAt n) w j (omega arith) (omega arith) ∙ a .word j l;
+        later = λ i l v. grid-other t w headWords portWords n z fits i (λ e. omega arith) ∙ a .later i (omega arith) v;
+        done =
+            λ i l.
+            ⊎-elim
+            (λ e. ap (λ (k : ℕ). block (put t (portAt n) w) (portAt k) portWords) e ∙ grid-same t w headWords portWords n z fits
+            ∙ ap (agedPort step) (same ∙ ap (λ (k : ℕ). block s (portAt k) portWords) (sym e)))
+            (λ lt. grid-other t w headWords portWords n z fits i (λ e. omega arith) ∙ a .done i lt)
+            (eq-or-lt-of-le (le-of-suc-le-suc l));
+      }
+
+  pub aged-ports : (n : ℕ) → n ≤ getD s 0 0 → Aged step s n (agedPortsTo step n s)
+  aged-ports zero h = record { size = refl; word = λ j l. refl; later = λ i l v. refl; done = λ i l. absurd (not-suc-le-zero l) }
+  aged-ports (suc n) h = next-aged n (agedPortsTo step n s) (omega arith) (omega (arith, held s sound .ports)) (aged-ports n (omega arith))
+
+  pub aged-length : length (agedStore step s) ≡ length s
+  unfolding agedStore
+  aged-length = aged-ports (getD s 0 0) (omega arith) .size
+
+-- a store whose head stays has the same site
+site-same : (s t : List ℕ) → getD s 3 0 ≤ listedMax → ((j : ℕ) → j < headWords → getD t j 0 ≡ getD s j 0) → siteOf t ≡ siteOf s
+unfolding siteOf
+site-same s t few word =
+    rw (word 1 (omega arith), word 2 (omega arith), word 3 (omega arith), tab-ext (getD s 3 0) (λ i. getD t (4 + i) 0) (λ i. getD s (4 + i) 0) (λ i l. word (4 + i) (omega arith)))
+
+-- ---- the turns of the ports
+
+total-snoc : {A : Type 0} (f : Turn A → List A) (Ts : List (Turn A)) (T : Turn A) → total f (Ts ++ (T ∷ [])) ≡ total f Ts + length (f T)
+total-snoc f [] T = omega arith
+total-snoc f (U ∷ Ts) T = omega (arith, total-snoc f Ts T)
+
+-- a step that is taken ages every port
+age-turns : (step : ℕ) → step < stepMax → (S : Site) (k n : ℕ) (g : ℕ → Port ForeignAnnounceMessage)
+    → turnsFrom reads S k (age step) (tab n g) ≡ tab n (λ q. agePort reads step (g q))
+age-turns step h S k zero g = refl
+age-turns step h S k (suc n) g =
+    ap₂ (λ (T : Turn ForeignAnnounceMessage) (Ts : List (Turn ForeignAnnounceMessage)). T ∷ Ts)
+    (ap (λ (b : Bool). turn reads S k (cond b (pass step) idle) (g zero)) (lt-ltb step stepMax h))
+    (age-turns step h S (suc k) n (λ q. g (suc q)))
+
+-- ---- the store aged
+
+module _ (step : ℕ) (s : List ℕ) (room : storeWords ≤ length s) (sound : soundWords s ≡ true) (small : step < stepMax) where
+  -- the words of port q, and its turn
+  abbrev words : ℕ → List ℕ
+  words q = block s (portAt q) portWords
+
+  abbrev turnOf : ℕ → Turn ForeignAnnounceMessage
+  turnOf q = agePort reads step (portOf (words q))
+
+  size : (q : ℕ) → q < getD s 0 0 → length (words q) ≡ portWords
+  size q h = length-block s (portAt q) portWords (omega (arith, held s sound .ports))
+
+  fits : (q : ℕ) → q < getD s 0 0 → ageLimit (getD (words q) 0 0) + step ≤ 2 ^ 64
+  fits q h = omega (arith, port-held s sound q h .interval)
+
+  all-turns : turns reads (age step) (bookOf s) ≡ tab (getD s 0 0) turnOf
+  unfolding turns bookOf
+  all-turns = age-turns step small (siteOf s) 1 (getD s 0 0) (λ q. portOf (words q))
+
+  gone-to : (n : ℕ) → n ≤ getD s 0 0 → gonePortsTo step n s ≡ total (λ T. T .agedOut) (tab n turnOf)
+  gone-to zero h = refl
+  gone-to (suc n) h =
+      ap₂ (λ (x y : ℕ). x + y) (gone-to n (omega arith))
+      (ap (gonePort step) (aged-ports step s room sound n (omega arith) .later n (omega arith) (omega (arith, held s sound .ports)))
+      ∙ port-gone step (words n) (size n (omega arith)) (port-held s sound n (omega arith) .masters) (master-held s sound n (omega arith)) (fits n (omega arith)))
+      ∙ sym (ap (total (λ T. T .agedOut)) (tab-snoc n turnOf) ∙ total-snoc (λ T. T .agedOut) (tab n turnOf) (turnOf n))
+
+  pub aged-view : bookOf (agedStore step s) ≡ after reads (age step) (bookOf s)
+  unfolding bookOf agedStore after
+  aged-view =
+      let n : ℕ = getD s 0 0 in
+      let t : List ℕ = agedPortsTo step n s in
+      let a : Aged step s n t = aged-ports step s room sound n (omega arith) in
+      let port : Turn ForeignAnnounceMessage → Port ForeignAnnounceMessage = λ T. T .port in
+      let ports : tab (getD t 0 0) (λ q. portOf (block t (portAt q) portWords)) ≡ map port (turns reads (age step) (bookOf s)) =
+      ap (λ (k : ℕ). tab k (λ q. portOf (block t (portAt q) portWords))) (a .word 0 (omega arith))
+      ∙ tab-ext n (λ q. portOf (block t (portAt q) portWords)) (λ q. port (turnOf q))
+      (λ q h. ap portOf (a .done q h) ∙ port-aged step (words q) (size q h) (port-held s sound q h .masters) (master-held s sound q h) (fits q h))
+      ∙ sym (ap (map port) all-turns ∙ map-tab port n turnOf) in
+      ap₂ (λ (S : Site) (Ps : List (Port ForeignAnnounceMessage)). record { site = S; ports = Ps }) (site-same s t (held s sound .listed) (a .word)) ports
+
+  pub gone-view : agedOut step s ≡ total (λ T. T .agedOut) (turns reads (age step) (bookOf s))
+  unfolding agedOut
+  gone-view = gone-to (getD s 0 0) (omega arith) ∙ sym (ap (total (λ T. T .agedOut)) all-turns)
