@@ -17,8 +17,8 @@ use Rattle.header.specs.declared.PortIdentity.{PortIdentity}
 use Rattle.slot.specs.Blocks.{block, length-block, block-set-before, block-set-after, block-set-in, le-or-lt}
 use Rattle.slot.specs.Slot.{decode, aged, decode-aged}
 use Rattle.slot.specs.declared.ForeignAnnounceMessage.{ForeignAnnounceMessage}
-use Rattle.history.specs.Rules.{messagesMax, inStep, stepsLimit}
-use Rattle.history.specs.Port.{Master, sequence, steps, sift, older, young, remaining, leaving, ageMaster}
+use Rattle.history.specs.Rules.{inStep, stepsLimit}
+use Rattle.history.specs.Port.{sequence, steps, sift, older, young, remaining, leaving, ageMaster}
 use Rattle.history.specs.Sound.{holdable, follows}
 use Rattle.book.specs.Below.{and₂, tab, tab-ext, length-tab, map-tab, first, first-le}
 use Rattle.book.specs.Layout.{masterWords, identityOf, slotAt, messageAt, masterOf, reads, age-word}

@@ -14,7 +14,7 @@ use Rattle.slot.specs.Blocks.{block, length-block, grid-same, grid-other, block
 use Rattle.slot.specs.declared.ForeignAnnounceMessage.{ForeignAnnounceMessage}
 use Rattle.choice.specs.Choice.{joined}
 use Rattle.history.specs.Rules.{mastersMax, ageLimit}
-use Rattle.history.specs.Port.{Master, Port, sift, hasMessages, leaving, ageMaster, agePort}
+use Rattle.history.specs.Port.{Master, sift, hasMessages, leaving, ageMaster, agePort}
 use Rattle.book.specs.Below.{tab, tab-snoc, tab-ext, tab-push, length-tab, map-tab}
 use Rattle.book.specs.Layout.{masterWords, portWords, masterAt, messageAt, masterOf, portOf, reads}
 use Rattle.book.specs.Rules.{HeldMaster}

@@ -13,9 +13,9 @@ use Rattle.wire.specs.Be.{put}
 use Rattle.wire.specs.BeLaws.{length-put, getD-put-before}
 use Rattle.slot.specs.Blocks.{block, length-block, grid-same, grid-other}
 use Rattle.slot.specs.declared.ForeignAnnounceMessage.{ForeignAnnounceMessage}
-use Rattle.history.specs.Rules.{portsMax, mastersMax, listedMax, ageLimit, stepMax}
+use Rattle.history.specs.Rules.{portsMax, listedMax, ageLimit, stepMax}
 use Rattle.history.specs.Port.{Port, Site, Turn, idle, pass, agePort, turn}
-use Rattle.history.specs.Book.{Book, age, total, turnsFrom, turns, after}
+use Rattle.history.specs.Book.{age, total, turnsFrom, turns, after}
 use Rattle.book.specs.Below.{tab, tab-snoc, tab-ext, map-tab}
 use Rattle.book.specs.Layout.{masterWords, portWords, headWords, storeWords, masterAt, portAt, portOf, siteOf, bookOf, reads}
 use Rattle.book.specs.Rules.{soundWords, held, held-port, HeldPort, held-master, HeldMaster}

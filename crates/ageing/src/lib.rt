@@ -69,12 +69,12 @@ fn age_master(master: &mut [u64], step: u64, limit: u64) -> u64
     ensures { λ r. ⌜ (r ≡ gone step limit (now (master .entry))) × (now (master .exit) ≡ agedMaster step limit (now (master .entry))) × (r ≤ 8) ⌝ }
 {
     age_messages(master, step);
-    let out = count_stale(master, limit) as u64;
+    let dropped = count_stale(master, limit) as u64;
     let start = master[2] % 8;
     let count = master[3];
-    master[2] = (start + out) % 8;
-    master[3] = count - out;
-    out
+    master[2] = (start + dropped) % 8;
+    master[3] = count - dropped;
+    dropped
 }
 
 fn age_masters(port: &mut [u64], step: u64, limit: u64) -> u64
@@ -154,13 +154,13 @@ pub fn age_ports(store: &mut [u64], step: u64) -> u64
     ensures { λ r. ⌜ r ≤ 8 * (8 * 12) ⌝ }
 {
     let count = store[0] as usize;
-    let mut out = 0;
+    let mut all = 0;
     let mut q = 0;
     while q < count {
         let at = book::HEAD_WORDS + q * book::PORT_WORDS;
         let here = age_port(&mut store[at..at + book::PORT_WORDS], step);
-        out += here;
+        all += here;
         q += 1;
     }
-    out
+    all
 }

@@ -17,16 +17,16 @@ use Rattle.ageing.proofs.age_ports.Statement.{statement}
 use Rattle.ageing.proofs.age_ports.Tie as tie
 
 abbrev Inv-loop : tie.InvT-loop
-Inv-loop store₀ step count out₀ q₀ store out q =
+Inv-loop store₀ step count all₀ q₀ store all q =
     (q ≤ count)
     × (count ≤ portsMax)
     × (length store ≡ length store₀)
-    × (out ≤ 8 * 12 * q)
-    × (out ≡ gonePortsTo step q store₀)
+    × (all ≤ 8 * 12 * q)
+    × (all ≡ gonePortsTo step q store₀)
     × (store ≡ agedPortsTo step q store₀)
 
 abbrev μ-loop : tie.MeasureT-loop
-μ-loop store₀ step count out₀ q₀ store out q = count - q
+μ-loop store₀ step count all₀ q₀ store all q = count - q
 
 loop-holds : tie.Need-loop-holds Inv-loop μ-loop
 loop-holds c =

@@ -19,14 +19,8 @@ Inv-loop master limit count k₀ k = (k ≤ count) × ((j : ℕ) → j < k → y
 abbrev μ-loop : tie.MeasureT-loop
 μ-loop master limit count k₀ k = count - k
 
-shared-slice-read-count : tie.Need-shared-slice-read-count Inv-loop μ-loop
-shared-slice-read-count c = omega arith
-
 loop-holds : tie.Need-loop-holds Inv-loop μ-loop
 loop-holds c = (omega arith, below-none _)
-
-age-at-requires : tie.Need-age-at-requires Inv-loop μ-loop
-age-at-requires c κs = omega arith
 
 returns : tie.Need-returns Inv-loop μ-loop
 unfolding stale
@@ -38,9 +32,6 @@ returns c =
 
 add-k : tie.Need-add-k Inv-loop μ-loop
 add-k c = omega (arith, c .before .before .before .before .shared-slice-known2 .given 3)
-
-loop-less : tie.Need-loop-less Inv-loop μ-loop
-loop-less c = omega arith
 
 loop-again : tie.Need-loop-again Inv-loop μ-loop
 loop-again c =
@@ -62,11 +53,11 @@ count-stale-spec =
     (tie.spec
     Inv-loop
     μ-loop
-    shared-slice-read-count
+    (λ c. omega arith)
     loop-holds
-    age-at-requires
+    (λ c κs. omega arith)
     returns
     add-k
-    loop-less
+    (λ c. omega arith)
     loop-again
     returns-2)
