@@ -263,7 +263,7 @@ module _ {A : Type 0} (R : Reads A) where
       together (port-sound R S (freshPort n) (record { interval = t .0; few = omega arith; apart = refl; masters = refl })) (fresh-ports S ns (t .1))
 
   -- a fresh book is sound
-  pub fresh-sound : (S : Site) (ns : List ℕ) → startable S ns ≡ true → soundBook R (freshBook S ns) ≡ true
+  pub fresh-sound : (S : Site) (ns : List ℕ) → startable (S .listed) ns ≡ true → soundBook R (freshBook S ns) ≡ true
   unfolding startable soundBook
   fresh-sound S ns s =
       let n = length ns in

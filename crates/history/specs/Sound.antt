@@ -71,7 +71,7 @@ module _ {A : Type 0} (R : Reads A) where
       && leb (length (B .site .listed)) listedMax
       && every (soundPort (B .site)) (B .ports)
 
--- a fresh start that is not refused 14
-unfoldable pub startable : Site → List ℕ → Bool
-startable S ns =
-    leb 1 (length ns) && leb (length ns) portsMax && leb (length (S .listed)) listedMax && every intervalRight ns
+-- a fresh start that is not refused 14, by the list of acceptable masters and the intervals of the ports
+unfoldable pub startable : List ℕ → List ℕ → Bool
+startable listed ns =
+    leb 1 (length ns) && leb (length ns) portsMax && leb (length listed) listedMax && every intervalRight ns

@@ -1,0 +1,91 @@
+// The calls on a lent store that change its lists, after bmc/foreign_master.rs: a fresh start, a registration, ageing. Each asks
+// nothing of what it is lent; a refusal changes no word.
+use announce::AnnounceMessage;
+use frame::FrameRead;
+use slot::ForeignAnnounceMessage;
+
+// How many messages a call put out, let age out and consumed.
+pub struct Tallies {
+    pub evicted: u64,
+    pub aged_out: u64,
+    pub consumed: u64,
+}
+
+// What a call answers: its tallies, or the number of the refusal.
+pub enum Answer {
+    Done(Tallies),
+    Refused(u8),
+}
+
+// Starts afresh for the ports whose intervals are given: 1 where the store is too short, then 14 where the count of ports, an
+// interval or the length of the list is out of range, else 0. Where any master is acceptable the list is kept and not looked at.
+pub fn fresh_start(
+    store: &mut [u64],
+    own: u64,
+    any: bool,
+    listed: &[u64],
+    intervals: &[u64],
+) -> u8 {
+    if store.len() < book::STORE_WORDS {
+        return 1;
+    }
+    if !fresh::startable(listed, intervals) {
+        return 14;
+    }
+    fresh::begin(store, own, any, listed, intervals);
+    0
+}
+
+// An announce that a port received, which counts from 0.
+fn register_at(store: &mut [u64], q: usize, announce: AnnounceMessage) -> Answer {
+    let m = ForeignAnnounceMessage {
+        message: announce,
+        age: 0,
+        receipt: 0,
+    };
+    let n = admission::refusal(store, q, m);
+    if n != 0 {
+        return Answer::Refused(n);
+    }
+    let evicted = admission::register_in(store, q, m);
+    Answer::Done(Tallies {
+        evicted,
+        aged_out: 0,
+        consumed: 0,
+    })
+}
+
+// Registers the frame that a port received: 1, 16, then 6 where there is no such port, then the frame's refusals, 7, 8, 9, 10, 11, 12.
+pub fn register_announce_message(store: &mut [u64], port: u16, frame: &[u8]) -> Answer {
+    let n = book::check(store);
+    if n != 0 {
+        return Answer::Refused(n);
+    }
+    if port == 0 {
+        return Answer::Refused(6);
+    }
+    if store[0] < port as u64 {
+        return Answer::Refused(6);
+    }
+    match frame::read_frame(frame) {
+        FrameRead::Refused(n) => Answer::Refused(n),
+        FrameRead::Done(message) => register_at(store, port as usize - 1, message.announce),
+    }
+}
+
+// Makes every message older by a step, and drops those that are too old: 1, 16, then 13 for a step of 2^62 or more.
+pub fn step_age(store: &mut [u64], step: u64) -> Answer {
+    let n = book::check(store);
+    if n != 0 {
+        return Answer::Refused(n);
+    }
+    if 0x4000_0000_0000_0000 <= step {
+        return Answer::Refused(13);
+    }
+    let aged_out = ageing::age_ports(store, step);
+    Answer::Done(Tallies {
+        evicted: 0,
+        aged_out,
+        consumed: 0,
+    })
+}
