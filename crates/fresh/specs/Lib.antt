@@ -1,0 +1,2 @@
+-- The definitions and laws of a fresh start.
+pub mod Fresh
