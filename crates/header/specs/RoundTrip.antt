@@ -67,7 +67,7 @@ fromValues v =
       size = getD v 2 0;
     }
 
-abbrev pub valuesOf : Wired → List ℕ
+abbrev valuesOf : Wired → List ℕ
 valuesOf w = headerValues (w .header) (w .type) (w .control) (w .size)
 
 module _ (w : Wired) (v : Valid w) where

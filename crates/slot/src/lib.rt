@@ -1,6 +1,6 @@
 // One held message in eight words of the store, after ForeignAnnounceMessage of bmc/foreign_master.rs. The sender's identity stands once, at its master, and not here.
 ghost use mathlib.Core.Path.{_≡_};
-ghost use Prim.Native.Nat.{_*_, _+_, _/_, _%_, _≤_, _<_};
+ghost use Prim.Native.Nat.{_*_, _+_, _/_, _%_, _≤_};
 ghost use lib.ListN.{length};
 ghost use Rattle.slot.specs.Slot.{
   Narrow,
