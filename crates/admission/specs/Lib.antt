@@ -1,3 +1,5 @@
 -- The definitions and laws of taking a message into the book.
 pub mod Refusal
 pub mod Admit
+pub mod MasterView
+pub mod PortView
