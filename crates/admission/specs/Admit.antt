@@ -1,16 +1,16 @@
 -- A message taken into the store, word by word, and how many it puts out.
 -- Assumes nothing.
 use Prim.Native.Nat.{ℕ, _+_, _%_}
-use mathlib.Core.Bool.{Bool, cond, not, _&&_}
+use mathlib.Core.Bool.{cond}
 use mathlib.Core.List.{List, _∷_}
-use lib.Dec.{ltb, leb}
+use lib.Dec.{ltb}
 use lib.ListN.{getD, set}
 use Rattle.wire.specs.Be.{put}
 use Rattle.header.specs.declared.PortIdentity.{PortIdentity}
 use Rattle.slot.specs.Blocks.{block}
 use Rattle.slot.specs.Slot.{encode}
 use Rattle.slot.specs.declared.ForeignAnnounceMessage.{ForeignAnnounceMessage}
-use Rattle.history.specs.Rules.{mastersMax, messagesMax, stepsLimit}
+use Rattle.history.specs.Rules.{messagesMax}
 use Rattle.history.specs.Port.{sender}
 use Rattle.book.specs.Layout.{masterWords, portWords, slotAt, masterAt, portAt, reads}
 use Rattle.book.specs.Rules.{place}

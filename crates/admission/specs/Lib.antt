@@ -3,3 +3,4 @@ pub mod Refusal
 pub mod Admit
 pub mod MasterView
 pub mod PortView
+pub mod StoreView

@@ -1,13 +1,13 @@
 -- A message taken into a port's words is the message taken into its lists, and the refusals by the words are those by the lists.
 -- Assumes nothing.
 use Prim.Native.Nat.{ℕ, zero, suc, _+_, _-_, _≤_, _<_}
-use mathlib.Core.Path.{_≡_, refl, sym, ap, _∙_}
+use mathlib.Core.Path.{_≡_, refl, sym, ap, ap₂, _∙_}
 use mathlib.Core.Bool.{Bool, true, false, cond, not, _&&_, _||_}
 use mathlib.Core.List.{List, [], _∷_, _++_}
 use mathlib.Core.Logic.{⊎-elim}
 use native.Mathlib.Omega.{arith}
 use native.Mathlib.Nat.{not-suc-le-zero}
-use borrow.Author.Tests.{lt-ltb, le-ltb, le-leb, lt-leb}
+use borrow.Author.Tests.{lt-ltb, le-ltb, le-leb, lt-leb, leb-false}
 use lib.Dec.{ltb, leb, leb·suc-suc}
 use lib.ListN.{length, getD, set, length-set}
 use lib.Seq.{getD-set-same, getD-set-other}
@@ -20,11 +20,11 @@ use Rattle.slot.specs.Slot.{Whole}
 use Rattle.slot.specs.declared.ForeignAnnounceMessage.{ForeignAnnounceMessage}
 use Rattle.history.specs.Rules.{mastersMax, messagesMax, inStep}
 use Rattle.history.specs.Port.{Master, Port, sender, sequence, newest, listOf, known, with, push, putOut, admit, holding, inOrder}
-use Rattle.book.specs.Below.{first, first-before, first-at, first-le, tab, tab-ext, tab-push, length-tab}
+use Rattle.book.specs.Below.{first, first-before, first-at, tab, tab-ext, tab-push, length-tab}
 use Rattle.book.specs.Layout.{masterWords, portWords, masterAt, identityOf, messageAt, masterOf, portOf, reads}
 use Rattle.book.specs.Rules.{named, place, place-le}
 use Rattle.admission.specs.Refusal.{lastOf, orderAt, roomRefusal}
-use Rattle.admission.specs.Admit.{putsOut, appended, begun, masterFor, evictedAt, registered}
+use Rattle.admission.specs.Admit.{appended, begun, masterFor, evictedAt, registered}
 use Rattle.admission.specs.MasterView.{appended-view, begun-view, putsOut-view, length-appended, length-begun}
 
 -- ---- on the values of a function
@@ -176,6 +176,17 @@ room-view p src =
     room : (b : Bool) → _≡_ {A = ℕ} (cond b 0 0) (cond (not b && false) 12 0)
     room true = refl
     room false = refl
+
+-- so where it is not refused 12, there is room
+pub place-below : (p : List ℕ) (src : PortIdentity) → getD p 1 0 ≤ mastersMax
+    → (not (known src (portOf p .masters)) && leb mastersMax (length (portOf p .masters))) ≡ false → place p src < mastersMax
+unfolding portOf
+place-below p src few e =
+    let n = getD p 1 0 in
+    let f : (not (ltb (place p src) n) && leb mastersMax n) ≡ false =
+    sym (ap₂ (λ (b : Bool) (k : ℕ). not b && leb mastersMax k) (known-view p src) (length-tab n (λ i. masterOf (block p (masterAt i) masterWords)))) ∙ e in
+    ⊎-elim (λ l. omega (arith, place-le p src, leb-false mastersMax n (sym (ap (λ (b : Bool). not b && leb mastersMax n) (le-ltb (place p src) n l)) ∙ f)))
+    (λ l. omega arith) (le-or-lt n (place p src))
 
 -- ---- the message taken in
 

@@ -3,13 +3,13 @@
 use Prim.Native.Nat.{ℕ, zero, suc, _+_, _-_, _≤_, _<_}
 use mathlib.Core.Path.{_≡_, refl, sym, ap, _∙_}
 use mathlib.Core.Bool.{Bool, true, false, not, _&&_, _||_, cond, and-true, and-false, and-assoc}
-use mathlib.Core.List.{List, [], _∷_, map}
+use mathlib.Core.List.{List}
 use mathlib.Core.Logic.{⊎-elim}
 use native.Mathlib.Omega.{arith}
 use native.Mathlib.Nat.{not-suc-le-zero, zero-add}
 use native.Mathlib.Numerals.{sub-one}
 use borrow.Author.Tests.{eq-eqb, eqb-true, lt-ltb, lt-leb, not-true}
-use lib.Dec.{ltb, leb, eqb, eqb·suc-zero, leb·suc-suc}
+use lib.Dec.{ltb, eqb, eqb·suc-zero, leb·suc-suc}
 use lib.ListN.{length, getD}
 use Rattle.header.specs.declared.PortIdentity.{PortIdentity}
 use Rattle.same.specs.Same.{samePort, same-port-refl}
