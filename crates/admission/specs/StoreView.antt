@@ -137,6 +137,11 @@ module _ (s : List ℕ) (room : storeWords ≤ length s) (sound : soundWords s �
       let number : q + 1 ≡ 1 + q = omega arith in
       simp (number, own-view s, accepts-view s (held s sound .listed) clock, order-view port m usual, room-view port (sender reads m))
 
+  -- where it is not refused there is room
+  pub room-there : (m : ForeignAnnounceMessage) → refusalIn s q m ≡ 0 → place (block s (portAt q) portWords) (sender reads m) < mastersMax
+  room-there m done =
+      place-below port (sender reads m) (port-held .masters) (accepted-parts reads (siteOf s) (1 + q) m (portOf port) (sym (refusal-view m) ∙ done) .room)
+
   module _ (m : ForeignAnnounceMessage) (whole : Whole m) (new : m .age ≡ 0) (done : refusalIn s q m ≡ 0) where
     abbrev call : Call ForeignAnnounceMessage
     call = register (1 + q) (announce m)
@@ -176,15 +181,12 @@ module _ (s : List ℕ) (room : storeWords ≤ length s) (sound : soundWords s �
         ∙ ap length (ap f turn-here ∙ here)
 
     -- the book afterwards
-    place-room : place port (sender reads m) < mastersMax
-    place-room = place-below port (sender reads m) (port-held .masters) (accepted-parts reads (siteOf s) (1 + q) m (portOf port) (sym (refusal-view m) ∙ done) .room)
-
     new-port : List ℕ
     new-port = registered port m
 
     new-size : length new-port ≡ portWords
     unfolding new-port
-    new-size = length-registered port m usual place-room whole
+    new-size = length-registered port m usual (room-there m done) whole
 
     word : (j : ℕ) → j < headWords → getD (put s (portAt q) new-port) j 0 ≡ getD s j 0
     word j h = getD-put-before s (portAt q) new-port j (omega arith) (omega (arith, fits))
@@ -202,7 +204,7 @@ module _ (s : List ℕ) (room : storeWords ≤ length s) (sound : soundWords s �
     moved j e =
         ap (λ (i : ℕ). portOf (block (put s (portAt q) new-port) (portAt i) portWords)) (sym e)
         ∙ ap portOf (grid-same s new-port headWords portWords q new-size fits)
-        ∙ registered-view port m usual place-room whole
+        ∙ registered-view port m usual (room-there m done) whole
         ∙ ap (λ (x : ForeignAnnounceMessage). holding (portOf port) (admit (sender reads m) x (portOf port .masters))) (sym entering)
         ∙ sym (ap (λ (t : Turn ForeignAnnounceMessage). t .port) turn-here)
         ∙ ap (λ (i : ℕ). T i .port) e
