@@ -42,16 +42,18 @@ paste-put p to from n h = ap (λ (k : ℕ). take to p ++ block p from n ++ drop 
 
 -- ---- a master
 
+-- it keeps its length
 pub length-olderTo : (step n : ℕ) (w : List ℕ) → length (olderTo step n w) ≡ length w
 unfolding olderAt
 length-olderTo step zero w = refl
 length-olderTo step (suc n) w = length-set (olderTo step n w) _ _ ∙ length-olderTo step n w
 
--- its words before the slots stay
+-- with one message older the words before the slots stay
 pub olderAt-word : (step k : ℕ) (w : List ℕ) (i : ℕ) → i < 4 → getD (olderAt step k w) i 0 ≡ getD w i 0
 unfolding olderAt
 olderAt-word step k w i h = getD-set-other w (slotAt (getD w 2 0) k + 2) i _ 0 (λ q. omega arith)
 
+-- and with the first n older
 pub olderTo-word : (step n : ℕ) (w : List ℕ) (i : ℕ) → i < 4 → getD (olderTo step n w) i 0 ≡ getD w i 0
 olderTo-word step zero w i h = refl
 olderTo-word step (suc n) w i h = olderAt-word step n (olderTo step n w) i h ∙ olderTo-word step n w i h
@@ -61,24 +63,27 @@ pub stale-le : (limit : ℕ) (w : List ℕ) → stale limit w ≤ getD w 3 0
 unfolding stale
 stale-le limit w = first-le (λ k. young reads limit (messageAt w k)) (getD w 3 0)
 
+-- of a master that is aged
 pub gone-le : (step limit : ℕ) (w : List ℕ) → gone step limit w ≤ getD w 3 0
 unfolding gone
 gone-le step limit w =
     let v : List ℕ = olderTo step (getD w 3 0) w in
     omega (arith, stale-le limit v, olderTo-word step (getD w 3 0) w 3 (omega arith))
 
+-- a master aged keeps its length
 pub length-agedMaster : (step limit : ℕ) (w : List ℕ) → length (agedMaster step limit w) ≡ length w
 unfolding agedMaster
 length-agedMaster step limit w = simp length-set (length-olderTo step (getD w 3 0) w)
 
 -- ---- masters moved
 
--- a master's count, by its word of the port
+-- a master has no message, by its word of the port
 pub is-empty : (p : List ℕ) (i : ℕ) → getD p (masterAt i + 3) 0 < 1 → occupied p i ≡ false
 unfolding occupied
 is-empty p i l =
     ap (λ (x : ℕ). leb 1 x) (getD-block p (masterAt i) masterWords 3 (omega arith)) ∙ lt-leb 1 (getD p (masterAt i + 3) 0) l
 
+-- and it has one
 pub not-empty : (p : List ℕ) (i : ℕ) → 1 ≤ getD p (masterAt i + 3) 0 → occupied p i ≡ true
 unfolding occupied
 not-empty p i l =
@@ -98,17 +103,20 @@ pack-moves i s w e q = simp (e, q)
 -- ---- masters aged one after the other
 
 module _ (step limit : ℕ) (p : List ℕ) (size : length p ≡ portWords) where
-  -- the words after n masters, and master n of them aged
+  -- the words after n masters
   abbrev so-far : ℕ → List ℕ
   so-far n = agedTo step limit n p
 
+  -- and master n of them aged
   abbrev next-block : ℕ → List ℕ
   next-block n = agedMaster step limit (block (so-far n) (masterAt n) masterWords)
 
+  -- it takes as many words as before
   next-size : (n : ℕ) → n < mastersMax → length (so-far n) ≡ portWords → length (next-block n) ≡ masterWords
   next-size n h e =
       length-agedMaster step limit (block (so-far n) (masterAt n) masterWords) ∙ length-block (so-far n) (masterAt n) masterWords (omega arith)
 
+  -- the port keeps its length
   pub length-agedTo : (n : ℕ) → n ≤ mastersMax → length (so-far n) ≡ portWords
   length-agedTo zero h = size
   length-agedTo (suc n) h =

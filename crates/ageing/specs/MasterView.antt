@@ -33,6 +33,7 @@ abbrev Lasts : (ℕ → Bool) → ℕ → Type 0
 Lasts p n = (j k : ℕ) → j ≤ k → k < n → p j ≡ true → p k ≡ true
 
 module _ {A : Type 0} (q : A → Bool) where
+  -- where all pass, all stay
   sift-all : (n : ℕ) (f : ℕ → A) → ((k : ℕ) → k < n → q (f k) ≡ true) → sift q (tab n f) ≡ tab n f
   sift-all zero f h = refl
   sift-all (suc n) f h =
@@ -77,10 +78,12 @@ head-message : (v w : List ℕ) (k : ℕ) → ((i : ℕ) → i < 3 → getD v i 
 unfolding messageAt
 head-message v w k h = rw (h 0 (omega arith), h 1 (omega arith), h 2 (omega arith))
 
+-- two places of a ring
 ring-apart : (s j k : ℕ) → j < 8 → k < 8 → (k ≡ j → ⊥) → (s + k) % 8 ≡ (s + j) % 8 → ⊥
 ring-apart s j k hj hk ne q = ne (omega arith)
 
 module _ (step k : ℕ) (w : List ℕ) (size : length w ≡ masterWords) where
+  -- the message itself
   older-same : messageAt w k .age + step < 2 ^ 64 → messageAt (olderAt step k w) k ≡ older reads step (messageAt w k)
   unfolding messageAt olderAt
   older-same fits =
@@ -92,6 +95,7 @@ module _ (step k : ℕ) (w : List ℕ) (size : length w ≡ masterWords) where
       ∙ decode-aged (identityOf w) (block w b 8) v (length-block w b 8 (omega arith))
       ∙ ap (aged (messageAt w k)) e
 
+  -- and every other
   older-other : (j : ℕ) → j < 8 → k < 8 → (k ≡ j → ⊥) → messageAt (olderAt step k w) j ≡ messageAt w j
   unfolding messageAt olderAt
   older-other j hj hk ne =
@@ -107,13 +111,16 @@ module _ (step k : ℕ) (w : List ℕ) (size : length w ≡ masterWords) where
 -- ---- the first n messages older
 
 module _ (step : ℕ) (w : List ℕ) (size : length w ≡ masterWords) where
+  -- the words keep their length
   sized : (n : ℕ) → length (olderTo step n w) ≡ masterWords
   sized n = length-olderTo step n w ∙ size
 
+  -- those still to come are as they were
   to-later : (n j : ℕ) → n ≤ j → j < 8 → messageAt (olderTo step n w) j ≡ messageAt w j
   to-later zero j h l = refl
   to-later (suc n) j h l = older-other step n (olderTo step n w) (sized n) j l (omega arith) (λ q. omega arith) ∙ to-later n j (omega arith) l
 
+  -- those before are older
   to-done : (n j : ℕ) → j < n → n ≤ 8 → messageAt w j .age + step < 2 ^ 64 → messageAt (olderTo step n w) j ≡ older reads step (messageAt w j)
   to-done zero j h l fits = absurd (not-suc-le-zero h)
   to-done (suc n) j h l fits =
@@ -128,13 +135,16 @@ module _ (step : ℕ) (w : List ℕ) (size : length w ≡ masterWords) where
 -- ---- the front let go
 
 module _ (n : ℕ) (w : List ℕ) (size : length w ≡ masterWords) where
+  -- the first slot
   without-start : getD (without n w) 2 0 ≡ (getD w 2 0 + n) % 8
   without-start =
       getD-set-other (set w 2 ((getD w 2 0 + n) % 8)) 3 2 (getD w 3 0 - n) 0 (λ q. omega arith) ∙ getD-set-same w 2 ((getD w 2 0 + n) % 8) 0 (omega arith)
 
+  -- the count
   without-count : getD (without n w) 3 0 ≡ getD w 3 0 - n
   without-count = getD-set-same (set w 2 ((getD w 2 0 + n) % 8)) 3 (getD w 3 0 - n) 0 (omega (arith, length-set w 2 ((getD w 2 0 + n) % 8)))
 
+  -- the identity stays
   without-name : identityOf (without n w) ≡ identityOf w
   without-name = rw (word 0 (omega arith), word 1 (omega arith))
     where
@@ -142,6 +152,7 @@ module _ (n : ℕ) (w : List ℕ) (size : length w ≡ masterWords) where
       word i h =
           getD-set-other (set w 2 ((getD w 2 0 + n) % 8)) 3 i (getD w 3 0 - n) 0 (λ q. omega arith) ∙ getD-set-other w 2 i ((getD w 2 0 + n) % 8) 0 (λ q. omega arith)
 
+  -- and the messages are those after the front
   without-message : (k : ℕ) → messageAt (without n w) k ≡ messageAt w (n + k)
   unfolding messageAt
   without-message k =
@@ -155,6 +166,7 @@ module _ (n : ℕ) (w : List ℕ) (size : length w ≡ masterWords) where
 
 -- ---- the ages of a sound master
 
+-- the age that was given
 aged-age : (m : ForeignAnnounceMessage) (n : ℕ) → aged m n .age ≡ n
 unfolding aged
 aged-age m n = refl
@@ -166,6 +178,7 @@ unfolding ruleAt
 rule-next limit w k = simp (eqb·suc-zero k, sub-one)
 
 module _ (limit : ℕ) (w : List ℕ) (held : HeldMaster limit w) where
+  -- each is below the limit
   age-below : (k : ℕ) → k < getD w 3 0 → messageAt w k .age < limit
   unfolding ruleAt
   age-below k h =
@@ -173,6 +186,7 @@ module _ (limit : ℕ) (w : List ℕ) (held : HeldMaster limit w) where
       let hold = and₂ (holdable reads (identityOf w) limit m) _ (held .message k h) .0 in
       ltb-true (m .age) limit (and₂ (ltb (steps reads m) stepsLimit) (ltb (m .age) limit) (sym (holdable-word limit w k) ∙ hold) .1)
 
+  -- and at most the one before
   age-next : (k : ℕ) → suc k < getD w 3 0 → messageAt w (suc k) .age ≤ messageAt w k .age
   unfolding follows
   age-next k h =
@@ -181,7 +195,7 @@ module _ (limit : ℕ) (w : List ℕ) (held : HeldMaster limit w) where
       let f = and₂ (holdable reads (identityOf w) limit b) (follows reads a b) (sym (rule-next limit w k) ∙ held .message (suc k) h) .1 in
       leb-true (b .age) (a .age) (and₂ (leb (b .age) (a .age)) (inStep (sequence reads a) (sequence reads b)) f .0)
 
-  -- ages never rise
+  -- so ages never rise
   age-falls : (j k : ℕ) → j ≤ k → k < getD w 3 0 → messageAt w k .age ≤ messageAt w j .age
   age-falls j zero l h =
       let e : j ≡ 0 = omega arith in
@@ -200,33 +214,41 @@ module _ (step limit : ℕ) (w : List ℕ) (size : length w ≡ masterWords) (he
   v : List ℕ
   v = olderTo step count w
 
+  -- each message of them
   each : (k : ℕ) → k < count → messageAt v k ≡ older reads step (messageAt w k)
   unfolding v
   each k h = to-done step w size count k h (held .few) (omega (arith, age-below limit w held k h))
 
+  -- and its age
   each-age : (k : ℕ) → k < count → messageAt v k .age ≡ messageAt w k .age + step
   each-age k h = ap (λ (m : ForeignAnnounceMessage). m .age) (each k h) ∙ aged-age (messageAt w k) (messageAt w k .age + step)
 
+  -- message k is young enough
   fresh : ℕ → Bool
   fresh k = young reads limit (messageAt v k)
 
+  -- and so is every later one
   fresh-lasts : Lasts fresh count
   unfolding fresh
   fresh-lasts j k l h e =
       lt-ltb (messageAt v k .age) limit
       (omega (arith, ltb-true (messageAt v j .age) limit e, each-age j (omega arith), each-age k h, age-falls limit w held j k l h))
 
+  -- the words hold the older messages
   all-older : tab count (messageAt v) ≡ map (older reads step) (tab count (messageAt w))
   all-older = tab-ext count (messageAt v) (λ k. older reads step (messageAt w k)) each ∙ sym (map-tab (older reads step) count (messageAt w))
 
+  -- as many go as stand before the first young one
   gone-first : gone step limit w ≡ first count fresh
   unfolding gone stale fresh v
   gone-first = ap (λ (n : ℕ). first n fresh) (olderTo-word step count w 3 (omega arith))
 
+  -- the others remain
   stays : tab (count - first count fresh) (λ k. messageAt v (first count fresh + k)) ≡ remaining reads step limit (masterOf w .messages)
   unfolding remaining masterOf fresh
   stays = sym (sift-lasts (young reads limit) count (messageAt v) fresh-lasts) ∙ ap (sift (young reads limit)) all-older
 
+  -- the words of a master aged are that master aged
   pub master-aged : masterOf (agedMaster step limit w) ≡ ageMaster reads step limit (masterOf w)
   unfolding masterOf agedMaster v
   master-aged =
@@ -241,6 +263,7 @@ module _ (step limit : ℕ) (w : List ℕ) (size : length w ≡ masterWords) (he
       ap (λ (g : ℕ). masterOf (without g v)) gone-first
       ∙ ap₂ (λ (x : PortIdentity) (ms : List ForeignAnnounceMessage). record { source = x; messages = ms }) (without-name n v z ∙ name) list
 
+  -- and its tally is how many leave
   pub master-gone : gone step limit w ≡ length (leaving reads step limit (masterOf w .messages))
   unfolding leaving remaining masterOf
   master-gone =

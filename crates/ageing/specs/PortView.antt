@@ -24,6 +24,7 @@ use Rattle.ageing.specs.MasterView.{master-aged, master-gone}
 
 -- ---- one element more at the end
 
+-- of those that pass a test
 sift-snoc : {A : Type 0} (f : A → Bool) (xs : List A) (x : A) → sift f (xs ++ (x ∷ [])) ≡ (sift f xs ++ cond (f x) (x ∷ []) [])
 sift-snoc f [] x = refl
 sift-snoc {A = A} f (y ∷ xs) x = pick (f y) (sift f (xs ++ (x ∷ []))) (sift-snoc f xs x)
@@ -32,6 +33,7 @@ sift-snoc {A = A} f (y ∷ xs) x = pick (f y) (sift f (xs ++ (x ∷ []))) (sift-
     pick true r e = ap (λ (l : List A). y ∷ l) e
     pick false r e = e
 
+-- of lists joined
 joined-snoc : {A B : Type 0} (f : A → List B) (xs : List A) (x : A) → length (joined (map f (xs ++ (x ∷ [])))) ≡ length (joined (map f xs)) + length (f x)
 joined-snoc f [] x = ap length (append-nil (f x)) ∙ omega arith
 joined-snoc f (y ∷ xs) x =
@@ -39,9 +41,11 @@ joined-snoc f (y ∷ xs) x =
 
 -- ---- the masters of a port's words
 
+-- master i
 abbrev masters : List ℕ → ℕ → Master ForeignAnnounceMessage
 masters p i = masterOf (block p (masterAt i) masterWords)
 
+-- it has a message where its count is not 0
 has-word : (w : List ℕ) → hasMessages (masterOf w) ≡ leb 1 (getD w 3 0)
 unfolding masterOf
 has-word w = ap (leb 1) (length-tab (getD w 3 0) (messageAt w))
@@ -65,6 +69,7 @@ module _ (p : List ℕ) (n : ℕ) (s : Packing) (h : n < mastersMax) (q : Squeez
       ∙ sift-snoc hasMessages (tab n (masters p)) (masters p n)
       ∙ ap (λ (b : Bool). sift hasMessages (tab n (masters p)) ++ cond b (masters p n ∷ []) []) here
 
+  -- an empty master is passed over
   when-empty : occupied (s .words) n ≡ false → Squeezed p (suc n) s
   when-empty e =
       record {
@@ -75,6 +80,7 @@ module _ (p : List ℕ) (n : ℕ) (s : Packing) (h : n < mastersMax) (q : Squeez
         list = q .list ∙ sym (one-more false e ∙ append-nil (sift hasMessages (tab n (masters p))));
       }
 
+  -- any other goes to the next place
   when-occupied : occupied (s .words) n ≡ true → Squeezed p (suc n) (moved n s)
   when-occupied e =
       let b : List ℕ = block (s .words) (masterAt n) masterWords in
@@ -93,6 +99,7 @@ module _ (p : List ℕ) (n : ℕ) (s : Packing) (h : n < mastersMax) (q : Squeez
             ∙ sym (one-more true e);
       }
 
+  -- so either way
   next-squeezed : Squeezed p (suc n) (packStep n s)
   unfolding packStep
   next-squeezed = pick (occupied (s .words) n) when-empty when-occupied refl
@@ -102,12 +109,14 @@ module _ (p : List ℕ) (n : ℕ) (s : Packing) (h : n < mastersMax) (q : Squeez
       pick true f g e = g e
       pick false f g e = f e
 
+-- after any number of masters
 pub squeeze : (p : List ℕ) (n : ℕ) → length p ≡ portWords → n ≤ mastersMax → Squeezed p n (packing n p)
 squeeze p zero size h = record { below = omega arith; size = size; word = λ j l. refl; later = λ i l u. refl; list = refl }
 squeeze p (suc n) size h = next-squeezed p n (packing n p) (omega arith) (squeeze p n size (omega arith))
 
 -- ---- a port aged
 
+-- it keeps its length
 pub length-agedPort : (step : ℕ) (p : List ℕ) → length p ≡ portWords → getD p 1 0 ≤ mastersMax → length (agedPort step p) ≡ portWords
 unfolding agedPort packed
 length-agedPort step p size few =
@@ -124,12 +133,15 @@ module _
     (held : (i : ℕ) → i < getD p 1 0 → HeldMaster (ageLimit (getD p 0 0)) (block p (masterAt i) masterWords))
     (fits : ageLimit (getD p 0 0) + step ≤ 2 ^ 64)
   where
+    -- the age from which on a message goes
     abbrev limit : ℕ
     limit = ageLimit (getD p 0 0)
 
+    -- the words of master i
     fill : (i : ℕ) → i < getD p 1 0 → length (block p (masterAt i) masterWords) ≡ masterWords
     fill i h = length-block p (masterAt i) masterWords (omega arith)
 
+    -- the words of a port aged are that port after its turn
     pub port-aged : portOf (agedPort step p) ≡ agePort reads step (portOf p) .port
     unfolding portOf agedPort packed agePort
     port-aged =
@@ -156,6 +168,7 @@ module _
     out : Master ForeignAnnounceMessage → List ForeignAnnounceMessage
     out M = leaving reads step limit (M .messages)
 
+    -- how many messages of the first n masters go
     gone-to : (n : ℕ) → n ≤ getD p 1 0 → goneTo step limit n p ≡ length (joined (map out (tab n (masters p))))
     unfolding out
     gone-to zero h = refl
@@ -165,6 +178,7 @@ module _
         ∙ master-gone step limit (block p (masterAt n) masterWords) (fill n (omega arith)) (held n (omega arith)) fits)
         ∙ sym (ap (λ (l : List (Master ForeignAnnounceMessage)). length (joined (map out l))) (tab-snoc n (masters p)) ∙ joined-snoc out (tab n (masters p)) (masters p n))
 
+    -- and of all of them
     pub port-gone : gonePort step p ≡ length (agePort reads step (portOf p) .agedOut)
     unfolding portOf gonePort agePort out
     port-gone = gone-to (getD p 1 0) (omega arith)

@@ -31,18 +31,21 @@ pub record Aged (step : ℕ) (s : List ℕ) (n : ℕ) (t : List ℕ) : Type 0 wh
   pub later : (i : ℕ) → n ≤ i → i < portsMax → block t (portAt i) portWords ≡ block s (portAt i) portWords
   pub done : (i : ℕ) → i < n → block t (portAt i) portWords ≡ agedPort step (block s (portAt i) portWords)
 
--- what soundness says of port q and of its master i
+-- what soundness says of port q
 pub port-held : (s : List ℕ) → soundWords s ≡ true → (q : ℕ) → q < getD s 0 0 → HeldPort (block s 0 headWords) (block s (portAt q) portWords)
 port-held s sound q h = held-port (block s 0 headWords) (block s (portAt q) portWords) (held s sound .port q h)
 
+-- of its master i
 master-held : (s : List ℕ) → soundWords s ≡ true → (q : ℕ) → q < getD s 0 0 → (i : ℕ) → i < getD (block s (portAt q) portWords) 1 0
     → HeldMaster (ageLimit (getD (block s (portAt q) portWords) 0 0)) (block (block s (portAt q) portWords) (masterAt i) masterWords)
 master-held s sound q h i l = held-master (block s 0 headWords) (block s (portAt q) portWords) i (port-held s sound q h .master i l)
 
+-- and of its rings
 pub rings-fit : (s : List ℕ) → soundWords s ≡ true → (q : ℕ) → q < getD s 0 0 → RingsFit (block s (portAt q) portWords)
 rings-fit s sound q h i l = master-held s sound q h i l .few
 
 module _ (step : ℕ) (s : List ℕ) (room : storeWords ≤ length s) (sound : soundWords s ≡ true) where
+  -- one port more
   next-aged : (n : ℕ) (t : List ℕ) → n < getD s 0 0 → n < portsMax → Aged step s n t
       → Aged step s (suc n) (put t (portAt n) (agedPort step (block t (portAt n) portWords)))
   next-aged n t h u a =
@@ -65,10 +68,12 @@ module _ (step : ℕ) (s : List ℕ) (room : storeWords ≤ length s) (sound : s
             (eq-or-lt-of-le (le-of-suc-le-suc l));
       }
 
+  -- after any number of ports
   pub aged-ports : (n : ℕ) → n ≤ getD s 0 0 → Aged step s n (agedPortsTo step n s)
   aged-ports zero h = record { size = refl; word = λ j l. refl; later = λ i l v. refl; done = λ i l. absurd (not-suc-le-zero l) }
   aged-ports (suc n) h = next-aged n (agedPortsTo step n s) (omega arith) (omega (arith, held s sound .ports)) (aged-ports n (omega arith))
 
+  -- the store keeps its length
   pub aged-length : length (agedStore step s) ≡ length s
   unfolding agedStore
   aged-length = aged-ports (getD s 0 0) (omega arith) .size
@@ -81,6 +86,7 @@ site-same s t few word =
 
 -- ---- the turns of the ports
 
+-- one turn more in a tally
 total-snoc : {A : Type 0} (f : Turn A → List A) (Ts : List (Turn A)) (T : Turn A) → total f (Ts ++ (T ∷ [])) ≡ total f Ts + length (f T)
 total-snoc f [] T = omega arith
 total-snoc f (U ∷ Ts) T = omega (arith, total-snoc f Ts T)
@@ -97,23 +103,28 @@ age-turns step h S k (suc n) g =
 -- ---- the store aged
 
 module _ (step : ℕ) (s : List ℕ) (room : storeWords ≤ length s) (sound : soundWords s ≡ true) (small : step < stepMax) where
-  -- the words of port q, and its turn
+  -- the words of port q
   abbrev words : ℕ → List ℕ
   words q = block s (portAt q) portWords
 
+  -- its turn
   abbrev turnOf : ℕ → Turn ForeignAnnounceMessage
   turnOf q = agePort reads step (portOf (words q))
 
+  -- its words are all there
   size : (q : ℕ) → q < getD s 0 0 → length (words q) ≡ portWords
   size q h = length-block s (portAt q) portWords (omega (arith, held s sound .ports))
 
+  -- its ages do not overflow
   fits : (q : ℕ) → q < getD s 0 0 → ageLimit (getD (words q) 0 0) + step ≤ 2 ^ 64
   fits q h = omega (arith, port-held s sound q h .interval)
 
+  -- the turns of all ports
   all-turns : turns reads (age step) (bookOf s) ≡ tab (getD s 0 0) turnOf
   unfolding turns bookOf
   all-turns = age-turns step small (siteOf s) 1 (getD s 0 0) (λ q. portOf (words q))
 
+  -- how many messages of the first n ports go
   gone-to : (n : ℕ) → n ≤ getD s 0 0 → gonePortsTo step n s ≡ total (λ T. T .agedOut) (tab n turnOf)
   gone-to zero h = refl
   gone-to (suc n) h =
@@ -122,6 +133,7 @@ module _ (step : ℕ) (s : List ℕ) (room : storeWords ≤ length s) (sound : s
       ∙ port-gone step (words n) (size n (omega arith)) (port-held s sound n (omega arith) .masters) (master-held s sound n (omega arith)) (fits n (omega arith)))
       ∙ sym (ap (total (λ T. T .agedOut)) (tab-snoc n turnOf) ∙ total-snoc (λ T. T .agedOut) (tab n turnOf) (turnOf n))
 
+  -- the words aged hold the book after the call
   pub aged-view : bookOf (agedStore step s) ≡ after reads (age step) (bookOf s)
   unfolding bookOf agedStore after
   aged-view =
@@ -136,6 +148,7 @@ module _ (step : ℕ) (s : List ℕ) (room : storeWords ≤ length s) (sound : s
       ∙ sym (ap (map port) all-turns ∙ map-tab port n turnOf) in
       ap₂ (λ (S : Site) (Ps : List (Port ForeignAnnounceMessage)). record { site = S; ports = Ps }) (site-same s t (held s sound .listed) (a .word)) ports
 
+  -- and the tally is how many messages aged out
   pub gone-view : agedOut step s ≡ total (λ T. T .agedOut) (turns reads (age step) (bookOf s))
   unfolding agedOut
   gone-view = gone-to (getD s 0 0) (omega arith) ∙ sym (ap (total (λ T. T .agedOut)) all-turns)
