@@ -51,12 +51,12 @@ unfolding masterOf
 has-word w = ap (leb 1) (length-tab (getD w 3 0) (messageAt w))
 
 -- what holds after n masters of p have been looked at
-pub record Squeezed (p : List ℕ) (n : ℕ) (s : Packing) : Type 0 where
-  pub below : s .next ≤ n
-  pub size : length (s .words) ≡ portWords
-  pub word : (j : ℕ) → j < 4 → getD (s .words) j 0 ≡ getD p j 0
-  pub later : (i : ℕ) → n ≤ i → i < mastersMax → block (s .words) (masterAt i) masterWords ≡ block p (masterAt i) masterWords
-  pub list : tab (s .next) (masters (s .words)) ≡ sift hasMessages (tab n (masters p))
+record Squeezed (p : List ℕ) (n : ℕ) (s : Packing) : Type 0 where
+  below : s .next ≤ n
+  size : length (s .words) ≡ portWords
+  word : (j : ℕ) → j < 4 → getD (s .words) j 0 ≡ getD p j 0
+  later : (i : ℕ) → n ≤ i → i < mastersMax → block (s .words) (masterAt i) masterWords ≡ block p (masterAt i) masterWords
+  list : tab (s .next) (masters (s .words)) ≡ sift hasMessages (tab n (masters p))
 
 module _ (p : List ℕ) (n : ℕ) (s : Packing) (h : n < mastersMax) (q : Squeezed p n s) where
   -- the masters that have messages, one more looked at
@@ -110,7 +110,7 @@ module _ (p : List ℕ) (n : ℕ) (s : Packing) (h : n < mastersMax) (q : Squeez
       pick false f g e = f e
 
 -- after any number of masters
-pub squeeze : (p : List ℕ) (n : ℕ) → length p ≡ portWords → n ≤ mastersMax → Squeezed p n (packing n p)
+squeeze : (p : List ℕ) (n : ℕ) → length p ≡ portWords → n ≤ mastersMax → Squeezed p n (packing n p)
 squeeze p zero size h = record { below = omega arith; size = size; word = λ j l. refl; later = λ i l u. refl; list = refl }
 squeeze p (suc n) size h = next-squeezed p n (packing n p) (omega arith) (squeeze p n size (omega arith))
 

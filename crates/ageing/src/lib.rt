@@ -26,6 +26,7 @@ ghost use Rattle.ageing.specs.Age.{
   agedStore,
 };
 
+// Message k older by `step`.
 fn age_message(master: &mut [u64], k: usize, step: u64)
     requires { ⌜ length (now master) ≡ masterWords ⌝ }
     ensures { λ r. ⌜ now (master .exit) ≡ olderAt step k (now (master .entry)) ⌝ }
@@ -35,6 +36,7 @@ fn age_message(master: &mut [u64], k: usize, step: u64)
     master[at + 2] = age;
 }
 
+// Every message of a master.
 fn age_messages(master: &mut [u64], step: u64)
     requires { ⌜ length (now master) ≡ masterWords ⌝ }
     ensures { λ r. ⌜ now (master .exit) ≡ olderTo step (getD (now (master .entry)) 3 0) (now (master .entry)) ⌝ }
@@ -63,7 +65,7 @@ fn count_stale(master: &[u64], limit: u64) -> usize
     count
 }
 
-// This and the functions below answer how many messages were let go.
+// A master aged. This and every function below that ages answers how many messages were let go.
 fn age_master(master: &mut [u64], step: u64, limit: u64) -> u64
     requires { ⌜ (length (now master) ≡ masterWords) × (getD (now master) 3 0 ≤ messagesMax) ⌝ }
     ensures { λ r. ⌜ (r ≡ gone step limit (now (master .entry))) × (now (master .exit) ≡ agedMaster step limit (now (master .entry))) × (r ≤ 8) ⌝ }
@@ -77,6 +79,7 @@ fn age_master(master: &mut [u64], step: u64, limit: u64) -> u64
     dropped
 }
 
+// The masters of a port.
 fn age_masters(port: &mut [u64], step: u64, limit: u64) -> u64
     requires { ⌜ (length (now port) ≡ portWords) × (getD (now port) 1 0 ≤ mastersMax) × RingsFit (now port) ⌝ }
     ensures { λ r. ⌜ (r ≡ goneTo step limit (getD (now (port .entry)) 1 0) (now (port .entry))) × (now (port .exit) ≡ agedTo step limit (getD (now (port .entry)) 1 0) (now (port .entry))) × (r ≤ 8 * 12) ⌝ }
@@ -123,6 +126,7 @@ fn pack_one(port: &mut [u64], i: usize, next: usize) -> usize
     next + 1
 }
 
+// The masters that have messages to the front.
 fn pack_masters(port: &mut [u64])
     requires { ⌜ (length (now port) ≡ portWords) × (getD (now port) 1 0 ≤ mastersMax) ⌝ }
     ensures { λ r. ⌜ now (port .exit) ≡ packed (now (port .entry)) ⌝ }
@@ -137,6 +141,7 @@ fn pack_masters(port: &mut [u64])
     port[1] = next as u64;
 }
 
+// A port aged.
 fn age_port(port: &mut [u64], step: u64) -> u64
     requires { ⌜ (length (now port) ≡ portWords) × (getD (now port) 1 0 ≤ mastersMax) × (getD (now port) 0 0 < 2 ^ 60) × RingsFit (now port) ⌝ }
     ensures { λ r. ⌜ (r ≡ gonePort step (now (port .entry))) × (now (port .exit) ≡ agedPort step (now (port .entry))) × (r ≤ 8 * 12) ⌝ }
