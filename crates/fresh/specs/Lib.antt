@@ -1,2 +1,3 @@
 -- The definitions and laws of a fresh start.
 pub mod Fresh
+pub mod Words
