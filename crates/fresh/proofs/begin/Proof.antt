@@ -1,5 +1,6 @@
 -- `fresh::begin` meets its contract. Assumes nothing.
 use native.Mathlib.Omega.{arith}
+use borrow.Author.Needs.{needs}
 use Prim.Native.Nat.{ℕ, _-_, _≤_}
 use mathlib.Core.Path.{_≡_, refl, sym, ap, ap₂, _∙_}
 use mathlib.Core.List.{List}
@@ -23,21 +24,6 @@ abbrev μ-loop : tie.MeasureT-loop
 loop-holds : tie.Need-loop-holds Inv-loop μ-loop
 loop-holds c = (omega arith, refl, sym (put-nil (c .before .before .before .args .store .now) 0))
 
-fresh-word-requires : tie.Need-fresh-word-requires Inv-loop μ-loop
-fresh-word-requires c κs = tt
-
-mul-store : tie.Need-mul-store Inv-loop μ-loop
-mul-store c = omega arith
-
-slice-write-store : tie.Need-slice-write-store Inv-loop μ-loop
-slice-write-store c = omega arith
-
-add-w : tie.Need-add-w Inv-loop μ-loop
-add-w c = omega arith
-
-loop-less : tie.Need-loop-less Inv-loop μ-loop
-loop-less c = omega arith
-
 loop-again : tie.Need-loop-again Inv-loop μ-loop
 loop-again c =
     let a = c .before .before .before .before .before .before .args in
@@ -47,9 +33,6 @@ loop-again c =
       length-set (l .store) (l .w) (c .fresh-word .result) ∙ l .inv .1,
       ap₂ (λ (t : List ℕ) (v : ℕ). set t (l .w) v) (l .inv .2) (c .fresh-word .ensures) ∙ put-more (a .store .now) f (l .w) (omega arith),
     )
-
-same-length : tie.Need-same-length Inv-loop μ-loop
-same-length c = c .before .loop .inv .1
 
 returns : tie.Need-returns Inv-loop μ-loop
 unfolding begun
@@ -66,11 +49,11 @@ begin-spec =
     Inv-loop
     μ-loop
     loop-holds
-    fresh-word-requires
-    mul-store
-    slice-write-store
-    add-w
-    loop-less
+    (λ c κs. search needs)
+    (λ c. search needs)
+    (λ c. search needs)
+    (λ c. search needs)
+    (λ c. search needs)
     loop-again
-    same-length
+    (λ c. search needs)
     returns)

@@ -1,5 +1,6 @@
 -- `fresh::startable` meets its contract. Assumes nothing.
 use native.Mathlib.Omega.{arith}
+use borrow.Author.Needs.{needs}
 use borrow.Author.Tests.{lt-leb, le-leb, not-true, not-false}
 use Prim.Native.Nat.{ℕ, _-_, _≤_}
 use mathlib.Core.Path.{_≡_, refl, sym, _∙_}
@@ -33,15 +34,6 @@ returns-3 c = simp (le-leb _ _ (c .before .before .if1 .left), le-leb _ _ (c .be
 loop-holds : tie.Need-loop-holds Inv-loop μ-loop
 loop-holds c = (omega arith, refl)
 
-mul-interval-right : tie.Need-mul-interval-right Inv-loop μ-loop
-mul-interval-right c = omega arith
-
-shared-slice-read-interval-right : tie.Need-shared-slice-read-interval-right Inv-loop μ-loop
-shared-slice-read-interval-right c = omega arith
-
-interval-right-requires : tie.Need-interval-right-requires Inv-loop μ-loop
-interval-right-requires c κs = tt
-
 returns-4 : tie.Need-returns-4 Inv-loop μ-loop
 unfolding startable
 returns-4 c =
@@ -53,12 +45,6 @@ returns-4 c =
           (sym (f .ensures) ∙ not-true (f .result) (c .if4 .taken)),
       and-false,
     )
-
-add-q : tie.Need-add-q Inv-loop μ-loop
-add-q c = omega arith
-
-loop-less : tie.Need-loop-less Inv-loop μ-loop
-loop-less c = omega arith
 
 loop-again : tie.Need-loop-again Inv-loop μ-loop
 loop-again c =
@@ -85,11 +71,11 @@ startable-spec =
     returns-2
     returns-3
     loop-holds
-    mul-interval-right
-    shared-slice-read-interval-right
-    interval-right-requires
+    (λ c. search needs)
+    (λ c. search needs)
+    (λ c κs. search needs)
     returns-4
-    add-q
-    loop-less
+    (λ c. search needs)
+    (λ c. search needs)
     loop-again
     returns-5)
