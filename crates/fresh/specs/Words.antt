@@ -1,7 +1,7 @@
 -- A list of words by its places: a test of all of them, the list again, and the words of a function put from the start on.
 -- Assumes nothing.
 use Prim.Native.Nat.{ℕ, zero, suc, _+_, _≤_, _<_}
-use mathlib.Core.Path.{_≡_, refl, sym, ap, _∙_}
+use mathlib.Core.Path.{_≡_, refl, sym, ap, ap₂, _∙_}
 use mathlib.Core.Bool.{Bool, _&&_}
 use mathlib.Core.List.{List, [], _∷_, _++_, append-assoc}
 use native.Mathlib.Omega.{arith}
@@ -33,10 +33,11 @@ getD-tab (suc n) f (suc i) h = getD-tab n (λ k. f (suc k)) i (omega arith)
 -- a list of words with the first n values of a function put at its start
 module _ (s : List ℕ) (f : ℕ → ℕ) (n : ℕ) where
   -- value n stored behind them is one value more
-  pub put-more : n < length s → set (put s 0 (tab n f)) n (f n) ≡ put s 0 (tab (n + 1) f)
+  pub put-more : (t : List ℕ) (v : ℕ) → t ≡ put s 0 (tab n f) → v ≡ f n → n < length s → set t n v ≡ put s 0 (tab (n + 1) f)
   unfolding put
-  put-more h =
-      ap (λ (m : ℕ). set (tab n f ++ drop m s) n (f n)) (zero-add (length (tab n f)) ∙ length-tab n f)
+  put-more t v here e h =
+      ap₂ (λ (t : List ℕ) (v : ℕ). set t n v) here e
+      ∙ ap (λ (m : ℕ). set (tab n f ++ drop m s) n (f n)) (zero-add (length (tab n f)) ∙ length-tab n f)
       ∙ ap (λ (r : List ℕ). set (tab n f ++ r) n (f n)) (drop-cons s n 0 h)
       ∙ set-at (tab n f) (getD s n 0) (drop (suc n) s) (f n) n (length-tab n f)
       ∙ sym (ap (λ (m : ℕ). tab m f ++ drop (0 + length (tab m f)) s) (add-one n)

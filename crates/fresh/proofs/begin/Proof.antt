@@ -2,15 +2,14 @@
 use native.Mathlib.Omega.{arith}
 use borrow.Author.Needs.{needs}
 use Prim.Native.Nat.{ℕ, _-_, _≤_}
-use mathlib.Core.Path.{_≡_, refl, sym, ap, ap₂, _∙_}
-use mathlib.Core.List.{List}
-use lib.ListN.{length, set, length-set}
+use mathlib.Core.Path.{_≡_, refl, sym, ap, _∙_}
+use lib.ListN.{length, length-set}
 use Rattle.wire.specs.Be.{put}
 use Rattle.wire.specs.BeLaws.{put-nil}
 use Rattle.book.specs.Below.{tab}
 use Rattle.book.specs.Layout.{storeWords}
 use Rattle.fresh.specs.Fresh.{siteWith, freshWord, begun}
-use Rattle.fresh.specs.Words.{put-more, length-put-tab}
+use Rattle.fresh.specs.Words.{put-more}
 use Rattle.fresh.proofs.begin.Statement.{statement}
 use Rattle.fresh.proofs.begin.Tie as tie
 
@@ -31,7 +30,7 @@ loop-again c =
     let f : ℕ → ℕ = freshWord (siteWith (a .own) (a .any) (a .listed .now)) (a .intervals .now) in (
       omega arith,
       length-set (l .store) (l .w) (c .fresh-word .result) ∙ l .inv .1,
-      ap₂ (λ (t : List ℕ) (v : ℕ). set t (l .w) v) (l .inv .2) (c .fresh-word .ensures) ∙ put-more (a .store .now) f (l .w) (omega arith),
+      put-more (a .store .now) f (l .w) (l .store) (c .fresh-word .result) (l .inv .2) (c .fresh-word .ensures) (omega arith),
     )
 
 returns : tie.Need-returns Inv-loop μ-loop

@@ -1,5 +1,4 @@
 -- `fresh::interval_right` meets its contract. Assumes nothing.
-use native.Mathlib.Omega.{arith}
 use borrow.Author.Tests.{lt-leb, le-leb}
 use Rattle.fresh.proofs.interval_right.Statement.{statement}
 use Rattle.fresh.proofs.interval_right.Tie as tie

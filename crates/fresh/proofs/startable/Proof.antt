@@ -2,9 +2,9 @@
 use native.Mathlib.Omega.{arith}
 use borrow.Author.Needs.{needs}
 use borrow.Author.Tests.{lt-leb, le-leb, not-true, not-false}
-use Prim.Native.Nat.{ℕ, _-_, _≤_}
+use Prim.Native.Nat.{_-_, _≤_}
 use mathlib.Core.Path.{_≡_, refl, sym, _∙_}
-use mathlib.Core.Bool.{Bool, true, and-false}
+use mathlib.Core.Bool.{true, and-false}
 use lib.ListN.{length, getD}
 use Rattle.history.specs.Rules.{intervalRight}
 use Rattle.history.specs.Sound.{startable}
