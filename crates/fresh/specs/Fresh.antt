@@ -10,6 +10,7 @@ use Rattle.history.specs.Port.{Site}
 use Rattle.book.specs.Below.{tab}
 use Rattle.book.specs.Layout.{portWords, headWords, storeWords}
 
+-- our own clock, whether any master is accepted, and those listed
 abbrev pub siteWith : ℕ → Bool → List ℕ → Site
 siteWith own any listed = record { own = own; any = any; listed = listed }
 

@@ -64,6 +64,7 @@ fn fresh_word(own: u64, any: bool, listed: &[u64], intervals: &[u64], w: usize) 
     0
 }
 
+// Word w of the head.
 fn head_word(own: u64, any: bool, listed: &[u64], ports: usize, w: usize) -> u64
     ensures { λ r. ⌜ r ≡ headWord (siteWith own any (now (listed .entry))) ports w ⌝ }
 {
