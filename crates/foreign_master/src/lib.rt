@@ -1,5 +1,15 @@
 // The calls on a lent store that change its lists, after bmc/foreign_master.rs: a fresh start, a registration, ageing. Each asks
 // nothing of what it is lent; a refusal changes no word.
+ghost use mathlib.Core.Path.{_≡_};
+ghost use mathlib.Core.Bool.{true};
+ghost use Prim.Native.Nat.{_<_, _≤_};
+ghost use lib.ListN.{length, getD};
+ghost use Rattle.slot.specs.Slot.{Narrow};
+ghost use Rattle.book.specs.Layout.{storeWords};
+ghost use Rattle.book.specs.Rules.{soundWords};
+ghost use Rattle.fresh.specs.Fresh.{siteWith};
+ghost use Rattle.foreign_master.specs.Calls.{freshAnswer, freshExit, heldOf, registerAnswer, registerExit, ageAnswer, ageExit};
+ghost use Rattle.foreign_master.specs.Steps.{takingAnswer, takingExit};
 use announce::AnnounceMessage;
 use frame::FrameRead;
 use slot::ForeignAnnounceMessage;
@@ -19,13 +29,10 @@ pub enum Answer {
 
 // Starts afresh for the ports whose intervals are given: 1 where the store is too short, then 14 where the count of ports, an
 // interval or the length of the list is out of range, else 0. Where any master is acceptable the list is kept and not looked at.
-pub fn fresh_start(
-    store: &mut [u64],
-    own: u64,
-    any: bool,
-    listed: &[u64],
-    intervals: &[u64],
-) -> u8 {
+pub fn fresh_start(store: &mut [u64], own: u64, any: bool, listed: &[u64], intervals: &[u64]) -> u8
+    ensures { λ r. ⌜ r ≡ freshAnswer (now (store .entry)) (siteWith own any (now (listed .entry))) (now (intervals .entry)) ⌝ }
+    ensures { λ _. ⌜ now (store .exit) ≡ freshExit (now (store .entry)) (siteWith own any (now (listed .entry))) (now (intervals .entry)) ⌝ }
+{
     if store.len() < book::STORE_WORDS {
         return 1;
     }
@@ -37,7 +44,11 @@ pub fn fresh_start(
 }
 
 // An announce that a port received, which counts from 0.
-fn register_at(store: &mut [u64], q: usize, announce: AnnounceMessage) -> Answer {
+fn register_at(store: &mut [u64], q: usize, announce: AnnounceMessage) -> Answer
+    requires { ⌜ (storeWords ≤ length (now store)) × (soundWords (now store) ≡ true) × (q < getD (now store) 0 0) ⌝ }
+    requires { ⌜ Narrow (heldOf announce) ⌝ }
+    ensures { λ r. ⌜ (r ≡ takingAnswer (now (store .entry)) q announce) × (now (store .exit) ≡ takingExit (now (store .entry)) q announce) ⌝ }
+{
     let m = ForeignAnnounceMessage {
         message: announce,
         age: 0,
@@ -56,7 +67,10 @@ fn register_at(store: &mut [u64], q: usize, announce: AnnounceMessage) -> Answer
 }
 
 // Registers the frame that a port received: 1, 16, then 6 where there is no such port, then the frame's refusals, 7, 8, 9, 10, 11, 12.
-pub fn register_announce_message(store: &mut [u64], port: u16, frame: &[u8]) -> Answer {
+pub fn register_announce_message(store: &mut [u64], port: u16, frame: &[u8]) -> Answer
+    ensures { λ r. ⌜ r ≡ registerAnswer (now (store .entry)) port (now (frame .entry)) ⌝ }
+    ensures { λ _. ⌜ now (store .exit) ≡ registerExit (now (store .entry)) port (now (frame .entry)) ⌝ }
+{
     let n = book::check(store);
     if n != 0 {
         return Answer::Refused(n);
@@ -74,7 +88,9 @@ pub fn register_announce_message(store: &mut [u64], port: u16, frame: &[u8]) -> 
 }
 
 // Makes every message older by a step, and drops those that are too old: 1, 16, then 13 for a step of 2^62 or more.
-pub fn step_age(store: &mut [u64], step: u64) -> Answer {
+pub fn step_age(store: &mut [u64], step: u64) -> Answer
+    ensures { λ r. ⌜ (r ≡ ageAnswer (now (store .entry)) step) × (now (store .exit) ≡ ageExit (now (store .entry)) step) ⌝ }
+{
     let n = book::check(store);
     if n != 0 {
         return Answer::Refused(n);
