@@ -20,8 +20,8 @@ use Rattle.history.specs.Book.{Book, Call, register, share, turnsFrom, turns, a
 use Rattle.history.specs.Tests.{by}
 use Rattle.history.specs.Parts.{accepted-parts}
 use Rattle.book.specs.Below.{tab, tab-ext, map-tab}
-use Rattle.book.specs.Layout.{portWords, headWords, storeWords, portAt, portOf, siteOf, bookOf, reads}
-use Rattle.book.specs.Rules.{place, soundWords, held, held-port, HeldPort, held-master}
+use Rattle.book.specs.Layout.{portWords, headWords, storeWords, portAt, portOf, siteOf, bookOf, reads, site-same}
+use Rattle.book.specs.Rules.{place, soundWords, held, port-held, master-held}
 use Rattle.book.specs.View.{accepts-view, own-view}
 use Rattle.admission.specs.Refusal.{refusalAt, refusalIn}
 use Rattle.admission.specs.Admit.{evictedIn, registered, registeredIn}
@@ -100,23 +100,11 @@ pub number-6 : (s : List ℕ) (p : ℕ) (f : Frame ForeignAnnounceMessage) → (
 unfolding number
 number-6 s p f o = ap (answerFrom 1 p) (turns-at s (register p f)) ∙ answer-none (getD s 0 0) 1 p (turnAt s (register p f)) o
 
--- a book and what its ports share, by their parts
-site-eq : {a a′ : ℕ} {b b′ : Bool} {l l′ : List ℕ} → a ≡ a′ → b ≡ b′ → l ≡ l′
-    → _≡_ {A = Site} (record { own = a; any = b; listed = l }) (record { own = a′; any = b′; listed = l′ })
-site-eq p q r = λ i. record { own = p i; any = q i; listed = r i }
-
-book-eq : {S S′ : Site} {Ps Ps′ : List (Port ForeignAnnounceMessage)} → S ≡ S′ → Ps ≡ Ps′
-    → _≡_ {A = Book ForeignAnnounceMessage} (record { site = S; ports = Ps }) (record { site = S′; ports = Ps′ })
-book-eq p q = λ i. record { site = p i; ports = q i }
-
 -- ---- what soundness says of a port
 
 module _ (s : List ℕ) (room : storeWords ≤ length s) (sound : soundWords s ≡ true) (q : ℕ) (below : q < getD s 0 0) where
   abbrev port : List ℕ
   port = block s (portAt q) portWords
-
-  port-held : HeldPort (block s 0 headWords) port
-  port-held = held-port (block s 0 headWords) (block s (portAt q) portWords) (held s sound .port q below)
 
   fits : portAt q + portWords ≤ length s
   fits = omega (arith, held s sound)
@@ -125,8 +113,8 @@ module _ (s : List ℕ) (room : storeWords ≤ length s) (sound : soundWords s �
   usual =
       record {
         size = length-block s (portAt q) portWords fits;
-        some = λ i l. held-master (block s 0 headWords) (block s (portAt q) portWords) i (port-held .master i l) .some;
-        few = λ i l. held-master (block s 0 headWords) (block s (portAt q) portWords) i (port-held .master i l) .few;
+        some = λ i l. master-held s sound q below i l .some;
+        few = λ i l. master-held s sound q below i l .few;
       }
 
   -- the refusal
@@ -140,7 +128,7 @@ module _ (s : List ℕ) (room : storeWords ≤ length s) (sound : soundWords s �
   -- where it is not refused there is room
   pub room-there : (m : ForeignAnnounceMessage) → refusalIn s q m ≡ 0 → place (block s (portAt q) portWords) (sender reads m) < mastersMax
   room-there m done =
-      place-below port (sender reads m) (port-held .masters) (accepted-parts reads (siteOf s) (1 + q) m (portOf port) (sym (refusal-view m) ∙ done) .room)
+      place-below port (sender reads m) (port-held s sound q below .masters) (accepted-parts reads (siteOf s) (1 + q) m (portOf port) (sym (refusal-view m) ∙ done) .room)
 
   module _ (m : ForeignAnnounceMessage) (whole : Whole m) (new : m .age ≡ 0) (done : refusalIn s q m ≡ 0) where
     abbrev call : Call ForeignAnnounceMessage
@@ -209,13 +197,6 @@ module _ (s : List ℕ) (room : storeWords ≤ length s) (sound : soundWords s �
         ∙ sym (ap (λ (t : Turn ForeignAnnounceMessage). t .port) turn-here)
         ∙ ap (λ (i : ℕ). T i .port) e
 
-    site-same : (out : List ℕ) → ((j : ℕ) → j < headWords → getD out j 0 ≡ getD s j 0) → siteOf out ≡ siteOf s
-    unfolding siteOf
-    site-same out w =
-        site-eq (w 1 (omega arith)) (ap (λ (x : ℕ). eqb x 0) (w 2 (omega arith)))
-        (ap (λ (n : ℕ). tab n (λ i. getD out (4 + i) 0)) (w 3 (omega arith))
-        ∙ tab-ext (getD s 3 0) (λ i. getD out (4 + i) 0) (λ i. getD s (4 + i) 0) (λ i l. w (4 + i) (omega (arith, held s sound))))
-
     pub registeredIn-view : bookOf (registeredIn s q m) ≡ after reads call (bookOf s)
     unfolding bookOf after registeredIn new-port T
     registeredIn-view =
@@ -226,7 +207,7 @@ module _ (s : List ℕ) (room : storeWords ≤ length s) (sound : soundWords s �
         (λ e f. moved j (eqb-true q j e))
         (λ e f. ap portOf (grid-other s new-port headWords portWords q new-size fits j (eqb-false q j e))
         ∙ sym (ap (λ (t : Turn ForeignAnnounceMessage). t .port) (turn-other j (eqb-false q j e)))) refl in
-        book-eq (site-same out word)
+        ap₂ (λ (S : Site) (Ps : List (Port ForeignAnnounceMessage)). record { site = S; ports = Ps }) (site-same s out (held s sound .listed) word)
         (ap (λ (n : ℕ). tab n g′) (word 0 (omega arith))
         ∙ tab-ext (getD s 0 0) g′ (λ j. T j .port) (λ j l. there j)
         ∙ sym (map-tab (λ (t : Turn ForeignAnnounceMessage). t .port) (getD s 0 0) T)

@@ -17,8 +17,8 @@ use Rattle.history.specs.Rules.{portsMax, listedMax, ageLimit, stepMax}
 use Rattle.history.specs.Port.{Port, Site, Turn, idle, pass, agePort, turn}
 use Rattle.history.specs.Book.{age, total, turnsFrom, turns, after}
 use Rattle.book.specs.Below.{tab, tab-snoc, tab-ext, map-tab}
-use Rattle.book.specs.Layout.{masterWords, portWords, headWords, storeWords, masterAt, portAt, portOf, siteOf, bookOf, reads}
-use Rattle.book.specs.Rules.{soundWords, held, held-port, HeldPort, held-master, HeldMaster}
+use Rattle.book.specs.Layout.{portWords, headWords, storeWords, portAt, portOf, siteOf, bookOf, reads, site-same}
+use Rattle.book.specs.Rules.{soundWords, held, port-held, master-held}
 use Rattle.ageing.specs.Age.{RingsFit, agedPort, gonePort, agedPortsTo, gonePortsTo, agedStore, agedOut}
 use Rattle.ageing.specs.PortView.{length-agedPort, port-aged, port-gone}
 
@@ -31,16 +31,7 @@ pub record Aged (step : ℕ) (s : List ℕ) (n : ℕ) (t : List ℕ) : Type 0 wh
   pub later : (i : ℕ) → n ≤ i → i < portsMax → block t (portAt i) portWords ≡ block s (portAt i) portWords
   pub done : (i : ℕ) → i < n → block t (portAt i) portWords ≡ agedPort step (block s (portAt i) portWords)
 
--- what soundness says of port q
-pub port-held : (s : List ℕ) → soundWords s ≡ true → (q : ℕ) → q < getD s 0 0 → HeldPort (block s 0 headWords) (block s (portAt q) portWords)
-port-held s sound q h = held-port (block s 0 headWords) (block s (portAt q) portWords) (held s sound .port q h)
-
--- of its master i
-master-held : (s : List ℕ) → soundWords s ≡ true → (q : ℕ) → q < getD s 0 0 → (i : ℕ) → i < getD (block s (portAt q) portWords) 1 0
-    → HeldMaster (ageLimit (getD (block s (portAt q) portWords) 0 0)) (block (block s (portAt q) portWords) (masterAt i) masterWords)
-master-held s sound q h i l = held-master (block s 0 headWords) (block s (portAt q) portWords) i (port-held s sound q h .master i l)
-
--- and of its rings
+-- what soundness says of a port's rings
 pub rings-fit : (s : List ℕ) → soundWords s ≡ true → (q : ℕ) → q < getD s 0 0 → RingsFit (block s (portAt q) portWords)
 rings-fit s sound q h i l = master-held s sound q h i l .few
 
@@ -77,12 +68,6 @@ module _ (step : ℕ) (s : List ℕ) (room : storeWords ≤ length s) (sound : s
   pub aged-length : length (agedStore step s) ≡ length s
   unfolding agedStore
   aged-length = aged-ports (getD s 0 0) (omega arith) .size
-
--- a store whose head stays has the same site
-site-same : (s t : List ℕ) → getD s 3 0 ≤ listedMax → ((j : ℕ) → j < headWords → getD t j 0 ≡ getD s j 0) → siteOf t ≡ siteOf s
-unfolding siteOf
-site-same s t few word =
-    rw (word 1 (omega arith), word 2 (omega arith), word 3 (omega arith), tab-ext (getD s 3 0) (λ i. getD t (4 + i) 0) (λ i. getD s (4 + i) 0) (λ i l. word (4 + i) (omega arith)))
 
 -- ---- the turns of the ports
 

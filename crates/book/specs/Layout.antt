@@ -1,8 +1,8 @@
 -- Where everything stands in the store, and the book that a store holds.
 -- Assumes nothing.
-use Prim.Native.Nat.{ℕ, _+_, _*_, _/_, _%_}
+use Prim.Native.Nat.{ℕ, _+_, _*_, _/_, _%_, _≤_, _<_}
 use native.Mathlib.Omega.{arith}
-use mathlib.Core.Path.{_≡_, ap, _∙_}
+use mathlib.Core.Path.{_≡_, refl, ap, _∙_}
 use mathlib.Core.List.{List}
 use lib.Dec.{eqb}
 use lib.ListN.{getD}
@@ -12,8 +12,10 @@ use Rattle.slot.specs.Slot.{decode, aged}
 use Rattle.slot.specs.Slot as slot
 use Rattle.slot.specs.declared.ForeignAnnounceMessage.{ForeignAnnounceMessage}
 use Rattle.history.specs.Port.{Reads, Master, Port, Site, sequence, steps}
+use Rattle.history.specs.Rules.{listedMax}
 use Rattle.history.specs.Book.{Book}
-use Rattle.book.specs.Below.{tab}
+use Rattle.history.specs.Sound.{Lawful}
+use Rattle.book.specs.Below.{tab, tab-ext}
 
 -- ---- the layout: there is room for 8 ports, 12 masters a port and 8 messages a master
 
@@ -69,6 +71,16 @@ bookOf s = record { site = siteOf s; ports = tab (getD s 0 0) (λ q. portOf (blo
 -- what the rules read of a held message
 abbrev pub reads : Reads ForeignAnnounceMessage
 reads = record { message = λ m. m .message; age = λ m. m .age; aged = aged }
+
+pub lawful : Lawful reads
+unfolding aged
+lawful = record { age = λ m n. refl; message = λ m n. refl }
+
+-- a store whose head stays has the same site
+pub site-same : (s t : List ℕ) → getD s 3 0 ≤ listedMax → ((j : ℕ) → j < headWords → getD t j 0 ≡ getD s j 0) → siteOf t ≡ siteOf s
+unfolding siteOf
+site-same s t few word =
+    rw (word 1 (omega arith), word 2 (omega arith), word 3 (omega arith), tab-ext (getD s 3 0) (λ i. getD t (4 + i) 0) (λ i. getD s (4 + i) 0) (λ i l. word (4 + i) (omega arith)))
 
 -- ---- the fields that the rules of a book read, by their words
 

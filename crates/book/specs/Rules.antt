@@ -130,3 +130,11 @@ held-master h p i sound =
       few = leb-true (getD m 3 0) messagesMax (u .1);
       message = λ k l. all-at (ruleAt limit m) (getD m 3 0) k l (t .1);
     }
+
+-- the same of port q and of its master i, in the store
+pub port-held : (s : List ℕ) → soundWords s ≡ true → (q : ℕ) → q < getD s 0 0 → HeldPort (block s 0 headWords) (block s (portAt q) portWords)
+port-held s sound q h = held-port (block s 0 headWords) (block s (portAt q) portWords) (held s sound .port q h)
+
+pub master-held : (s : List ℕ) → soundWords s ≡ true → (q : ℕ) → q < getD s 0 0 → (i : ℕ) → i < getD (block s (portAt q) portWords) 1 0
+    → HeldMaster (ageLimit (getD (block s (portAt q) portWords) 0 0)) (block (block s (portAt q) portWords) (masterAt i) masterWords)
+master-held s sound q h i l = held-master (block s 0 headWords) (block s (portAt q) portWords) i (port-held s sound q h .master i l)

@@ -10,9 +10,9 @@ use Rattle.wire.specs.Be.{put}
 use Rattle.slot.specs.Blocks.{block, length-block, part-block, lent-block}
 use Rattle.history.specs.Rules.{portsMax}
 use Rattle.book.specs.Layout.{portWords, portAt}
-use Rattle.book.specs.Rules.{held}
+use Rattle.book.specs.Rules.{held, port-held}
 use Rattle.ageing.specs.Age.{agedPort, gonePort, agedPortsTo, gonePortsTo, agedStore, agedOut}
-use Rattle.ageing.specs.StoreView.{aged-ports, port-held, rings-fit}
+use Rattle.ageing.specs.StoreView.{aged-ports, rings-fit}
 use Rattle.ageing.proofs.age_ports.Statement.{statement}
 use Rattle.ageing.proofs.age_ports.Tie as tie
 
