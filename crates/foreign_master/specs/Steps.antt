@@ -138,7 +138,8 @@ tallies-eq : {a a′ b b′ c c′ : ℕ} → a ≡ a′ → b ≡ b′ → c �
     → _≡_ {A = Tallies} (record { evicted = a; «aged_out» = b; consumed = c }) (record { evicted = a′; «aged_out» = b′; consumed = c′ })
 tallies-eq p q r = λ i. record { evicted = p i; «aged_out» = q i; consumed = r i }
 
-one-less : (q : ℕ) → 1 + q - 1 ≡ q
+-- the place of port 1 + q
+pub one-less : (q : ℕ) → 1 + q - 1 ≡ q
 one-less q = omega arith
 
 module _ (s frame : List ℕ) (checks : storeRefusal s ≡ 0) where
