@@ -108,7 +108,7 @@ module _ (p w : List ℕ) (i : ℕ) (size : length p ≡ portWords) (block-size 
   count-block : (v k : ℕ) → block (set (put p (masterAt i) w) 1 v) (masterAt k) masterWords ≡ block (put p (masterAt i) w) (masterAt k) masterWords
   count-block v k = block-set-before (put p (masterAt i) w) 1 v (masterAt k) masterWords (omega arith)
 
-pub port-eq : {a a′ : ℕ} {ms ms′ : List (Master ForeignAnnounceMessage)} → a ≡ a′ → ms ≡ ms′
+port-eq : {a a′ : ℕ} {ms ms′ : List (Master ForeignAnnounceMessage)} → a ≡ a′ → ms ≡ ms′
     → _≡_ {A = Port ForeignAnnounceMessage} (record { interval = a; masters = ms }) (record { interval = a′; masters = ms′ })
 port-eq p q = λ i. record { interval = p i; masters = q i }
 

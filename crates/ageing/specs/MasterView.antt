@@ -13,6 +13,7 @@ use lib.Arith.{lt-of-le-ne}
 use lib.Dec.{ltb, leb, eqb·suc-zero}
 use lib.ListN.{length, getD, set, length-set}
 use lib.Seq.{getD-set-same, getD-set-other}
+use Rattle.wire.specs.Below.{both}
 use Rattle.header.specs.declared.PortIdentity.{PortIdentity}
 use Rattle.slot.specs.Blocks.{block, length-block, block-set-before, block-set-after, block-set-in, le-or-lt}
 use Rattle.slot.specs.Slot.{decode, aged, decode-aged}
@@ -20,7 +21,7 @@ use Rattle.slot.specs.declared.ForeignAnnounceMessage.{ForeignAnnounceMessage}
 use Rattle.history.specs.Rules.{inStep, stepsLimit}
 use Rattle.history.specs.Port.{sequence, steps, sift, older, young, remaining, leaving, ageMaster}
 use Rattle.history.specs.Sound.{holdable, follows}
-use Rattle.book.specs.Below.{and₂, tab, tab-ext, length-tab, map-tab, first, first-le}
+use Rattle.book.specs.Below.{tab, tab-ext, length-tab, map-tab, first, first-le}
 use Rattle.book.specs.Layout.{masterWords, identityOf, slotAt, messageAt, masterOf, reads, age-word}
 use Rattle.book.specs.Rules.{ruleAt, holdable-word, HeldMaster}
 use Rattle.ageing.specs.Age.{olderAt, olderTo, stale, gone, without, agedMaster}
@@ -183,8 +184,8 @@ module _ (limit : ℕ) (w : List ℕ) (held : HeldMaster limit w) where
   unfolding ruleAt
   age-below k h =
       let m : ForeignAnnounceMessage = messageAt w k in
-      let hold = and₂ (holdable reads (identityOf w) limit m) _ (held .message k h) .0 in
-      ltb-true (m .age) limit (and₂ (ltb (steps reads m) stepsLimit) (ltb (m .age) limit) (sym (holdable-word limit w k) ∙ hold) .1)
+      let hold = both (holdable reads (identityOf w) limit m) _ (held .message k h) .0 in
+      ltb-true (m .age) limit (both (ltb (steps reads m) stepsLimit) (ltb (m .age) limit) (sym (holdable-word limit w k) ∙ hold) .1)
 
   -- and at most the one before
   age-next : (k : ℕ) → suc k < getD w 3 0 → messageAt w (suc k) .age ≤ messageAt w k .age
@@ -192,8 +193,8 @@ module _ (limit : ℕ) (w : List ℕ) (held : HeldMaster limit w) where
   age-next k h =
       let a : ForeignAnnounceMessage = messageAt w k in
       let b : ForeignAnnounceMessage = messageAt w (suc k) in
-      let f = and₂ (holdable reads (identityOf w) limit b) (follows reads a b) (sym (rule-next limit w k) ∙ held .message (suc k) h) .1 in
-      leb-true (b .age) (a .age) (and₂ (leb (b .age) (a .age)) (inStep (sequence reads a) (sequence reads b)) f .0)
+      let f = both (holdable reads (identityOf w) limit b) (follows reads a b) (sym (rule-next limit w k) ∙ held .message (suc k) h) .1 in
+      leb-true (b .age) (a .age) (both (leb (b .age) (a .age)) (inStep (sequence reads a) (sequence reads b)) f .0)
 
   -- so ages never rise
   age-falls : (j k : ℕ) → j ≤ k → k < getD w 3 0 → messageAt w k .age ≤ messageAt w j .age

@@ -7,6 +7,7 @@ use mathlib.Core.Path.{_≡_, ap, _∙_}
 use borrow.Author.Tests.{leb-true, ltb-true}
 use lib.Dec.{ltb, leb, eqb}
 use lib.ListN.{length, getD}
+use Rattle.wire.specs.Below.{both}
 use Rattle.header.specs.declared.PortIdentity.{PortIdentity}
 use Rattle.same.specs.Same.{samePort, same-port-refl}
 use Rattle.slot.specs.Blocks.{block}
@@ -14,7 +15,7 @@ use Rattle.slot.specs.Slot.{decode-source}
 use Rattle.history.specs.Rules.{portsMax, mastersMax, messagesMax, listedMax, stepsLimit, ageLimit}
 use Rattle.history.specs.Port.{sender, steps}
 use Rattle.history.specs.Sound.{holdable, follows}
-use Rattle.book.specs.Below.{all, first, first-le, all-at, and₂, and₄}
+use Rattle.book.specs.Below.{all, first, first-le, all-at, and₄}
 use Rattle.book.specs.Layout.{masterWords, portWords, headWords, storeWords, masterAt, portAt, slotAt, identityOf, messageAt, reads}
 
 -- message k of a master: it may be held, and after the first it follows the one before
@@ -122,8 +123,8 @@ unfolding placed masterSound
 held-master h p i sound =
     let m : List ℕ = block p (masterAt i) masterWords in
     let limit : ℕ = ageLimit (getD p 0 0) in
-    let s = and₂ (eqb (place p (identityOf m)) i) (masterSound h limit m) sound in
-    let t = and₂ (leb 1 (getD m 3 0) && leb (getD m 3 0) messagesMax && not (eqb (getD m 0 0) (getD h 1 0)) && acceptsHead h (getD m 0 0)) (all (getD m 3 0) (ruleAt limit m)) (s .1) in
+    let s = both (eqb (place p (identityOf m)) i) (masterSound h limit m) sound in
+    let t = both (leb 1 (getD m 3 0) && leb (getD m 3 0) messagesMax && not (eqb (getD m 0 0) (getD h 1 0)) && acceptsHead h (getD m 0 0)) (all (getD m 3 0) (ruleAt limit m)) (s .1) in
     let u = and₄ (leb 1 (getD m 3 0)) (leb (getD m 3 0) messagesMax) (not (eqb (getD m 0 0) (getD h 1 0))) (acceptsHead h (getD m 0 0)) (t .0) in
     record {
       some = leb-true 1 (getD m 3 0) (u .0);

@@ -11,6 +11,7 @@ use native.Mathlib.Numerals.{sub-one}
 use borrow.Author.Tests.{eq-eqb, eqb-true, lt-ltb, lt-leb, not-true}
 use lib.Dec.{ltb, eqb, eqb·suc-zero, leb·suc-suc}
 use lib.ListN.{length, getD}
+use Rattle.wire.specs.Below.{both}
 use Rattle.header.specs.declared.PortIdentity.{PortIdentity}
 use Rattle.same.specs.Same.{samePort, same-port-refl}
 use Rattle.slot.specs.Blocks.{block, getD-block, le-or-lt}
@@ -18,7 +19,7 @@ use Rattle.slot.specs.declared.ForeignAnnounceMessage.{ForeignAnnounceMessage}
 use Rattle.history.specs.Rules.{listedMax, ageLimit}
 use Rattle.history.specs.Port.{Master, accepts, isIn}
 use Rattle.history.specs.Sound.{every, distinct, sources, holdable, follows, soundAfter, soundMessages, soundMaster, soundPort, soundBook}
-use Rattle.book.specs.Below.{all, all-at, all-shift, all-intro, all-ext, all-and, bool-eq, and₂, first, first-before, first-found, tab, tab-ext, length-tab, map-tab}
+use Rattle.book.specs.Below.{all, all-at, all-shift, all-intro, all-ext, all-and, bool-eq, first, first-before, first-found, tab, tab-ext, length-tab, map-tab}
 use Rattle.book.specs.Layout.{masterWords, portWords, headWords, masterAt, portAt, identityOf, messageAt, masterOf, portOf, siteOf, bookOf, reads}
 use Rattle.book.specs.Rules.{ruleAt, place, acceptsHead, masterSound, placed, portSound, portTest, soundWords}
 
@@ -103,11 +104,11 @@ unfolding Apart names other
 apart-distinct zero g e i j l h = absurd (not-suc-le-zero h)
 apart-distinct (suc n) g e i zero l h = absurd (not-suc-le-zero l)
 apart-distinct (suc n) g e zero (suc j) l h =
-    let t = and₂ (every (other (g 0)) (tab n (λ k. g (suc k)))) (distinct (tab n (λ k. g (suc k)))) e in
+    let t = both (every (other (g 0)) (tab n (λ k. g (suc k)))) (distinct (tab n (λ k. g (suc k)))) e in
     not-true (samePort (g 0) (g (suc j)))
     (all-at (λ k. other (g 0) (g (suc k))) n j (omega arith) (sym (every-tab (other (g 0)) n (λ k. g (suc k))) ∙ t .0))
 apart-distinct (suc n) g e (suc i) (suc j) l h =
-    let t = and₂ (every (other (g 0)) (tab n (λ k. g (suc k)))) (distinct (tab n (λ k. g (suc k)))) e in
+    let t = both (every (other (g 0)) (tab n (λ k. g (suc k)))) (distinct (tab n (λ k. g (suc k)))) e in
     apart-distinct n (λ k. g (suc k)) (t .1) i j (omega arith) (omega arith)
 
 distinct-tab : (n : ℕ) (g : ℕ → PortIdentity) → all n (λ j. eqb (first n (names g j)) j) ≡ distinct (tab n g)

@@ -130,11 +130,6 @@ pub decode-age : (source : PortIdentity) (w : List ℕ) → decode source w .age
 unfolding decode
 decode-age source w = refl
 
--- the receipt is word 3
-pub decode-receipt : (source : PortIdentity) (w : List ℕ) → decode source w .receipt ≡ getD w 3 0
-unfolding decode
-decode-receipt source w = refl
-
 -- the sequence is the highest of word 4
 pub decode-sequence : (source : PortIdentity) (w : List ℕ) → decode source w .message .header .«sequence_id» ≡ getD w 4 0 / 65536 / 65536 % 65536
 unfolding decode announceOf announceWith headerOf headerWith
