@@ -1,0 +1,239 @@
+// Answers each line of the input, a fresh start, a frame, a step of age or the wish to see the book, in hexadecimal digits: the lines of the
+// oracle's subcommand books.
+mod told;
+
+ghost use Prim.Native.Nat.{_≤_};
+ghost use lib.ListN.{length};
+use book::STORE_WORDS;
+use foreign_master::Answer;
+use foreign_master::Tallies;
+
+// The longest line.
+const MAX_LINE: usize = 2048;
+
+// The longest lists that a line has room for.
+const MAX_WORDS: usize = 256;
+
+// Our clock, the rule and the length of its list, with which a fresh start begins.
+const START_SIZE: usize = 10;
+
+// The numbers of eight bytes that a part of a line is made of.
+fn words_of(s: &[u8]) -> [u64; 256] {
+    let mut list = [0u64; MAX_WORDS];
+    for i in 0..MAX_WORDS {
+        if i * 8 + 8 <= s.len() {
+            list[i] = wire::u64_at(s, i * 8);
+        }
+    }
+    list
+}
+
+// Starts afresh with the lists of a line: the number of the answer.
+fn start(store: &mut [u64], own: u64, any: bool, listed: &[u8], intervals: &[u8]) -> u8 {
+    let clocks = words_of(listed);
+    let times = words_of(intervals);
+    let n = listed.len() / 8;
+    let ports = intervals.len() / 8;
+    if MAX_WORDS < n {
+        return 14;
+    }
+    if MAX_WORDS < ports {
+        return 14;
+    }
+    foreign_master::fresh_start(store, own, any, &clocks[..n], &times[..ports])
+}
+
+// A fresh start. Here and below, the answer is whether the line has the right shape; if not, nothing is written.
+fn answer_start(store: &mut [u64], s: &[u8]) -> bool
+    requires { ⌜ 6580 ≤ length (now store) ⌝ }
+{
+    if s.len() < START_SIZE {
+        return false;
+    }
+    if 1 < s[8] {
+        return false;
+    }
+    let end = START_SIZE + s[9] as usize * 8;
+    if s.len() < end {
+        return false;
+    }
+    if s.len() % 8 != START_SIZE % 8 {
+        return false;
+    }
+    let own = wire::u64_at(s, 0);
+    let any = s[8] == 0;
+    let n = start(store, own, any, &s[START_SIZE..end], &s[end..]);
+    replay::print_first(n);
+    if n == 0 {
+        told::print_book(store, false);
+    }
+    true
+}
+
+// Writes what the line of an answer has no room for, and is always none.
+fn print_others(one: u64, other: u64) {
+    if one != 0 {
+        replay::print(one, 1);
+    }
+    if other != 0 {
+        replay::print(other, 1);
+    }
+}
+
+// Writes that the crate's answer to a frame is yes, or no, and how many messages were put out.
+fn print_heard(yes: bool, t: Tallies) {
+    replay::print_first(0);
+    replay::print_flag(yes);
+    replay::print(t.evicted, 1);
+    print_others(t.aged_out, t.consumed);
+}
+
+fn nothing() -> Tallies {
+    Tallies {
+        evicted: 0,
+        aged_out: 0,
+        consumed: 0,
+    }
+}
+
+// Writes the start of the answer to a frame; whether the book follows. The crate's yes covers done and 9 to 12, its no 7 and 8.
+fn print_answer(answer: Answer) -> bool {
+    match answer {
+        Answer::Done(t) => {
+            print_heard(true, t);
+            true
+        }
+        Answer::Refused(n) => match n {
+            7..=8 => {
+                print_heard(false, nothing());
+                true
+            }
+            9..=12 => {
+                print_heard(true, nothing());
+                true
+            }
+            _ => {
+                replay::print_first(n);
+                false
+            }
+        },
+    }
+}
+
+// A frame at a port.
+fn answer_frame(store: &mut [u64], s: &[u8]) -> bool
+    requires { ⌜ 6580 ≤ length (now store) ⌝ }
+{
+    if s.len() == 0 {
+        return false;
+    }
+    let port = s[0] as u16;
+    let answer = foreign_master::register_announce_message(store, port, &s[1..]);
+    if print_answer(answer) {
+        told::print_book(store, false);
+    }
+    true
+}
+
+// Writes how many messages aged out; whether the book follows.
+fn print_aged(answer: Answer) -> bool {
+    match answer {
+        Answer::Done(t) => {
+            replay::print_first(0);
+            replay::print(t.aged_out, 1);
+            print_others(t.evicted, t.consumed);
+            true
+        }
+        Answer::Refused(n) => {
+            replay::print_first(n);
+            false
+        }
+    }
+}
+
+// A step of age.
+fn answer_step(store: &mut [u64], s: &[u8]) -> bool
+    requires { ⌜ 6580 ≤ length (now store) ⌝ }
+{
+    if s.len() != 8 {
+        return false;
+    }
+    let answer = foreign_master::step_age(store, wire::u64_at(s, 0));
+    if print_aged(answer) {
+        told::print_book(store, false);
+    }
+    true
+}
+
+// The book in full.
+fn answer_wish(store: &[u64], s: &[u8]) -> bool
+    requires { ⌜ 6580 ≤ length (now store) ⌝ }
+{
+    if s.len() != 0 {
+        return false;
+    }
+    told::print_book(store, true);
+    true
+}
+
+// Answers a line by what its first byte asks.
+fn answer_line(store: &mut [u64], line: &[u8]) -> bool
+    requires { ⌜ 6580 ≤ length (now store) ⌝ }
+{
+    if line.len() == 0 {
+        return false;
+    }
+    let kind = line[0];
+    let rest = &line[1..];
+    match kind {
+        0 => answer_start(store, rest),
+        1 => answer_frame(store, rest),
+        2 => answer_step(store, rest),
+        3 => answer_wish(store, rest),
+        _ => false,
+    }
+}
+
+// Answers the line of n bytes at the start of the buffer.
+fn answer(store: &mut [u64], bytes: &[u8], n: usize)
+    requires { ⌜ (6580 ≤ length (now store)) × (n ≤ length (now bytes)) ⌝ }
+{
+    if answer_line(store, &bytes[0..n]) {
+        replay::print_end();
+    } else {
+        replay::print_bad();
+    }
+}
+
+// Answers each line of the input. A proved loop has to end, and nothing says that the input does: the turns are counted down from a number
+// that no run uses up.
+fn run(store: &mut [u64], block: &mut [u8], line: &mut [u8], bytes: &mut [u8])
+    requires { ⌜ 6580 ≤ length (now store) ⌝ }
+{
+    let mut place = input::Place::start();
+    let mut turns = u64::MAX;
+    while turns > 0 {
+        match replay::next_bytes(place, block, line, bytes) {
+            replay::Next::Bytes { count, place: next } => {
+                answer(store, bytes, count);
+                place = next;
+            }
+            replay::Next::Bad { place: next } => {
+                replay::print_bad();
+                place = next;
+            }
+            replay::Next::End => {
+                return;
+            }
+        }
+        turns -= 1;
+    }
+}
+
+fn main() {
+    let mut store = [0u64; STORE_WORDS];
+    let mut block = io::large_buffer();
+    let mut line = io::buffer();
+    let mut bytes = [0u8; MAX_LINE];
+    run(&mut store, &mut block, &mut line, &mut bytes);
+}
