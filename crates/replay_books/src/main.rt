@@ -2,11 +2,14 @@
 // oracle's subcommand books.
 mod told;
 
-ghost use Prim.Native.Nat.{_≤_};
+ghost use mathlib.Core.Path.{_≡_};
+ghost use Prim.Native.Nat.{_<_, _≤_};
 ghost use lib.ListN.{length};
 use book::STORE_WORDS;
 use foreign_master::Answer;
 use foreign_master::Tallies;
+use input::Place;
+use replay::Next;
 
 // The longest line.
 const MAX_LINE: usize = 2048;
@@ -17,30 +20,60 @@ const MAX_WORDS: usize = 256;
 // Our clock, the rule and the length of its list, with which a fresh start begins.
 const START_SIZE: usize = 10;
 
-// The numbers of eight bytes that a part of a line is made of.
-fn words_of(s: &[u8]) -> [u64; 256] {
+// A number of eight bytes in a part of a line, 0 where it has none.
+fn word_at(s: &[u8], i: usize) -> u64
+    requires { ⌜ i < 256 ⌝ }
+{
+    if i * 8 + 8 <= s.len() {
+        return wire::u64_at(s, i * 8);
+    }
+    0
+}
+
+// The numbers that a part of a line is made of.
+fn words_of(s: &[u8]) -> [u64; 256]
+    ensures { λ r. ⌜ 256 ≡ length r ⌝ }
+{
     let mut list = [0u64; MAX_WORDS];
     for i in 0..MAX_WORDS {
-        if i * 8 + 8 <= s.len() {
-            list[i] = wire::u64_at(s, i * 8);
-        }
+        list[i] = word_at(s, i);
     }
     list
 }
 
-// Starts afresh with the lists of a line: the number of the answer.
+// Starts afresh with the first words of two lists: the number of the answer.
+fn start_with(
+    store: &mut [u64],
+    own: u64,
+    any: bool,
+    clocks: &[u64],
+    listed: usize,
+    times: &[u64],
+    ports: usize,
+) -> u8 {
+    if clocks.len() < listed {
+        return 14;
+    }
+    if times.len() < ports {
+        return 14;
+    }
+    foreign_master::fresh_start(store, own, any, &clocks[0..listed], &times[0..ports])
+}
+
+// The same with the lists of a line.
 fn start(store: &mut [u64], own: u64, any: bool, listed: &[u8], intervals: &[u8]) -> u8 {
     let clocks = words_of(listed);
     let times = words_of(intervals);
     let n = listed.len() / 8;
     let ports = intervals.len() / 8;
-    if MAX_WORDS < n {
-        return 14;
-    }
-    if MAX_WORDS < ports {
-        return 14;
-    }
-    foreign_master::fresh_start(store, own, any, &clocks[..n], &times[..ports])
+    start_with(store, own, any, &clocks, n, &times, ports)
+}
+
+// Where the list ends that has so many clocks.
+fn list_end(count: u8) -> usize
+    ensures { λ r. ⌜ 10 ≤ r ⌝ }
+{
+    START_SIZE + count as usize * 8
 }
 
 // A fresh start. Here and below, the answer is whether the line has the right shape; if not, nothing is written.
@@ -53,7 +86,7 @@ fn answer_start(store: &mut [u64], s: &[u8]) -> bool
     if 1 < s[8] {
         return false;
     }
-    let end = START_SIZE + s[9] as usize * 8;
+    let end = list_end(s[9]);
     if s.len() < end {
         return false;
     }
@@ -120,6 +153,10 @@ fn print_answer(answer: Answer) -> bool {
     }
 }
 
+fn wide(x: u8) -> u16 {
+    x as u16
+}
+
 // A frame at a port.
 fn answer_frame(store: &mut [u64], s: &[u8]) -> bool
     requires { ⌜ 6580 ≤ length (now store) ⌝ }
@@ -127,7 +164,7 @@ fn answer_frame(store: &mut [u64], s: &[u8]) -> bool
     if s.len() == 0 {
         return false;
     }
-    let port = s[0] as u16;
+    let port = wide(s[0]);
     let answer = foreign_master::register_announce_message(store, port, &s[1..]);
     if print_answer(answer) {
         told::print_book(store, false);
@@ -194,14 +231,50 @@ fn answer_line(store: &mut [u64], line: &[u8]) -> bool
     }
 }
 
-// Answers the line of n bytes at the start of the buffer.
+// Answers the line of n bytes at the start of the buffer. More than it has, which no line has, are a bad line.
 fn answer(store: &mut [u64], bytes: &[u8], n: usize)
-    requires { ⌜ (6580 ≤ length (now store)) × (n ≤ length (now bytes)) ⌝ }
+    requires { ⌜ 6580 ≤ length (now store) ⌝ }
 {
+    if bytes.len() < n {
+        replay::print_bad();
+        return;
+    }
     if answer_line(store, &bytes[0..n]) {
         replay::print_end();
     } else {
         replay::print_bad();
+    }
+}
+
+// Answers what the input holds next.
+fn answer_next(store: &mut [u64], bytes: &[u8], next: Next)
+    requires { ⌜ 6580 ≤ length (now store) ⌝ }
+{
+    match next {
+        Next::Bytes { count, place: _ } => {
+            answer(store, bytes, count);
+        }
+        Next::Bad { place: _ } => {
+            replay::print_bad();
+        }
+        Next::End => {}
+    }
+}
+
+// Where the program stands after it.
+fn place_after(next: Next) -> Place {
+    match next {
+        Next::Bytes { count: _, place } => place,
+        Next::Bad { place } => place,
+        Next::End => Place::start(),
+    }
+}
+
+fn is_end(next: Next) -> bool {
+    match next {
+        Next::Bytes { count: _, place: _ } => false,
+        Next::Bad { place: _ } => false,
+        Next::End => true,
     }
 }
 
@@ -210,22 +283,15 @@ fn answer(store: &mut [u64], bytes: &[u8], n: usize)
 fn run(store: &mut [u64], block: &mut [u8], line: &mut [u8], bytes: &mut [u8])
     requires { ⌜ 6580 ≤ length (now store) ⌝ }
 {
-    let mut place = input::Place::start();
+    let mut place = Place::start();
     let mut turns = u64::MAX;
     while turns > 0 {
-        match replay::next_bytes(place, block, line, bytes) {
-            replay::Next::Bytes { count, place: next } => {
-                answer(store, bytes, count);
-                place = next;
-            }
-            replay::Next::Bad { place: next } => {
-                replay::print_bad();
-                place = next;
-            }
-            replay::Next::End => {
-                return;
-            }
+        let next = replay::next_bytes(place, block, line, bytes);
+        if is_end(next) {
+            return;
         }
+        answer_next(store, bytes, next);
+        place = place_after(next);
         turns -= 1;
     }
 }

@@ -28,8 +28,8 @@ fn within(count: u64, most: u64) -> usize
 
 // A byte more in the hash FNV-1a of 32 bits.
 fn hashed(hash: u32, byte: u8) -> u32 {
-    let mixed = hash ^ byte as u32;
-    (mixed as u64 * 0x0100_0193 % 0x1_0000_0000) as u32
+    let mixed = (hash as u64 ^ byte as u64) % 0x1_0000_0000;
+    (mixed * 0x0100_0193 % 0x1_0000_0000) as u32
 }
 
 // The hash of bytes.
@@ -41,10 +41,14 @@ fn hash(s: &[u8]) -> u32 {
     sum
 }
 
+fn wide(x: u8) -> u64 {
+    x as u64
+}
+
 // Writes a message's bytes.
 fn print_bytes(s: &[u8]) {
     for i in 0..s.len() {
-        print_on(s[i] as u64, 2);
+        print_on(wide(s[i]), 2);
     }
 }
 
