@@ -76,7 +76,10 @@ fn holds(s: &[u64], at: usize, letter: u8, frame: &[u8]) -> bool {
 pub fn newest(s: &[u64], port: u64, letter: u8, kind: u8, sequence: u64, steps: u64) -> bool {
     let i = place(s, port, letter);
     let count = word(s, words::master_at(port, i) + 3);
-    if (i == 8) | (count == 0) {
+    if i == 8 {
+        return false;
+    }
+    if count == 0 {
         return false;
     }
     let at = words::message_at(s, port, i, count - 1);

@@ -1,11 +1,14 @@
 // A full book: eight ports, eight masters each with eight messages, a list of sixteen, much of it at a limit.
+ghost use Prim.Native.Nat.{_≤_};
 use crate::sent;
 use crate::words;
 
 const MAX_INTERVAL: u64 = 0x0FFF_FFFF_FFFF_FFFF;
 
 // Port 8 has the longest interval.
-fn interval(q: usize) -> u64 {
+fn interval(q: usize) -> u64
+    ensures { λ r. ⌜ (16 ≤ r) × (r ≤ 0x0FFFFFFFFFFFFFFF) ⌝ }
+{
     if q == 7 {
         return MAX_INTERVAL;
     }
@@ -55,7 +58,7 @@ fn slot_word(q: usize, i: usize, slot: usize, w: usize) -> u64 {
     match w {
         2 => age(q, i, k),
         4 => (sequence(i, k) % 65536 * 65536 + steps(i, k) % 65536) * 65536 + 37,
-        _ => words::laid(slot * 8 + w),
+        _ => words::laid(slot % 8 * 8 + w % 8),
     }
 }
 
@@ -78,7 +81,10 @@ fn port_word(q: usize, w: usize) -> u64 {
     if w == 1 {
         return 8;
     }
-    if (w < 4) | (548 <= w) {
+    if w < 4 {
+        return words::laid(w);
+    }
+    if 548 <= w {
         return words::laid(w);
     }
     master_word(q, (w - 4) / 68, (w - 4) % 68)

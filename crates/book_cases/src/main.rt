@@ -39,7 +39,7 @@ fn run(name: &[u8], group: Group, cases: u64, store: &mut [u64], before: &mut [u
     t.report(name);
 }
 
-fn all(store: &mut [u64], before: &mut [u64]) {
+fn fresh_starts(store: &mut [u64], before: &mut [u64]) {
     tables::fresh_starts(store, before);
     run(
         b"stores too short",
@@ -48,6 +48,9 @@ fn all(store: &mut [u64], before: &mut [u64]) {
         store,
         before,
     );
+}
+
+fn registrations(store: &mut [u64], before: &mut [u64]) {
     tables::registrations(store, before);
     run(
         b"sequences",
@@ -58,6 +61,11 @@ fn all(store: &mut [u64], before: &mut [u64]) {
     );
     run(b"steps", Group::Steps, sequences::STEPS, store, before);
     tables::lists(store, before);
+}
+
+fn all(store: &mut [u64], before: &mut [u64]) {
+    fresh_starts(store, before);
+    registrations(store, before);
     tables::ages(store, before);
     damage::run(store, before);
 }

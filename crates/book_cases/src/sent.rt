@@ -98,7 +98,7 @@ fn put_content(f: &mut [u8], kind: u8, sequence: u64, steps: u64)
 {
     let value: u64 = if kind == b'4' { 1 } else { 2 };
     wire::put_be(f, 30, 2, sequence);
-    wire::put_be(f, 53, 8, clock(b'Z') + sequence % 65536);
+    wire::put_be(f, 53, 8, 0x0019_0FFF_FE00_0000 + sequence % 65536);
     wire::put_be(f, 61, 2, steps);
     wire::put_be(f, 66, 2, value);
 }

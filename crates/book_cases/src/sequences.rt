@@ -57,7 +57,7 @@ pub fn sequence(n: u64, store: &mut [u64]) -> bool {
     start(store);
     hold(store, last, if wrapped { 11 } else { 1 });
     let held = count(store);
-    let next = (last + DIFFERENCES[difference]) % 65536;
+    let next = (last % 65536 + DIFFERENCES[difference] % 65536) % 65536;
     let answer = calls::register(store, 2, b'A', b'g', next, 0);
     let number: u64 = if taken { 0 } else { 10 };
     let evicted: u64 = if wrapped { 1 } else { 0 };
