@@ -1,11 +1,11 @@
 // Scripts: rows that call, and rows that say what the book then holds.
-use crate::calls;
 use crate::rows;
-use crate::rules;
-use crate::starts;
-use crate::starts::Setup;
-use crate::words;
-use crate::words::word;
+use book_vectors::calls;
+use book_vectors::rules;
+use book_vectors::starts;
+use book_vectors::starts::Setup;
+use book_vectors::words;
+use book_vectors::words::word;
 use vectors::tally::Tally;
 
 // F ports rule interval interval number: a fresh start, with the first interval for port 1 and the second for the others.
@@ -149,8 +149,8 @@ fn holds(store: &mut [u64], before: &mut [u64], row: &[u8]) -> bool {
     right(store, before, row) & rules::sound(store)
 }
 
-// Runs the rows of a script, each ended by a semicolon, and writes their line.
-pub fn run(name: &[u8], table: &[u8], store: &mut [u64], before: &mut [u64]) {
+// Runs the rows of a script, each ended by a semicolon.
+fn all(table: &[u8], store: &mut [u64], before: &mut [u64]) -> Tally {
     let mut t = Tally { cases: 0, wrong: 0 };
     let mut at = 0;
     words::lay(store);
@@ -159,5 +159,13 @@ pub fn run(name: &[u8], table: &[u8], store: &mut [u64], before: &mut [u64]) {
         t = t.with(holds(store, before, &table[at..end]));
         at = end + 1;
     }
+    t
+}
+
+// Runs a script on a store of its own, and writes its line.
+pub fn run(name: &[u8], table: &[u8]) {
+    let mut store = [0u64; words::STORE];
+    let mut before = [0u64; words::STORE];
+    let t = all(table, &mut store, &mut before);
     t.report(name);
 }

@@ -1,9 +1,9 @@
 // Sequences and steps on both sides of their limits.
-use crate::calls;
-use crate::starts;
-use crate::starts::Setup;
-use crate::words;
-use crate::words::word;
+use book_vectors::calls;
+use book_vectors::starts;
+use book_vectors::starts::Setup;
+use book_vectors::words;
+use book_vectors::words::word;
 
 // Seven last sequences, ten differences, of one message held and of a full ring that has wrapped.
 pub const SEQUENCES: u64 = 140;
@@ -44,37 +44,50 @@ fn hold(store: &mut [u64], last: u64, count: u64) {
     }
 }
 
-fn count(store: &[u64]) -> u64 {
-    word(store, words::master_at(2, 0) + 3)
-}
-
-// The answer to a message with this difference to the last held, and how many are held then.
-pub fn sequence(n: u64, store: &mut [u64]) -> bool {
-    let last = LAST[(n / 10 % 7) as usize];
-    let difference = (n % 10) as usize;
-    let wrapped = n / 70 % 2 == 1;
-    let taken = TAKEN[difference] == b't';
+// One message more, after so many of which the last has this sequence: the number of the answer, and how many are held then. Of more than
+// eight before it, it puts out one.
+fn next(store: &mut [u64], last: u64, count: u64, sequence: u64, number: u64, held: u64) -> bool {
+    let evicted: u64 = if count < 8 { 0 } else { 1 };
     start(store);
-    hold(store, last, if wrapped { 11 } else { 1 });
-    let held = count(store);
-    let next = (last % 65536 + DIFFERENCES[difference] % 65536) % 65536;
-    let answer = calls::register(store, 2, b'A', b'g', next, 0);
-    let number: u64 = if taken { 0 } else { 10 };
-    let evicted: u64 = if wrapped { 1 } else { 0 };
-    let more: u64 = if taken & !wrapped { 2 } else { held };
-    calls::is(answer, number, evicted, 0) & (count(store) == more)
+    hold(store, last, count);
+    let answer = calls::register(store, 2, b'A', b'g', sequence, 0);
+    calls::is(answer, number, evicted, 0) & (word(store, words::master_at(2, 0) + 3) == held)
 }
 
-pub fn steps(n: u64, store: &mut [u64]) -> bool {
-    let i = (n % 12) as usize;
-    let known = n / 12 % 2 == 1;
-    let number: u64 = if NEAR[i] == b't' { 0 } else { 11 };
+// A message with this difference to the last held, after one or after eleven.
+fn differs(store: &mut [u64], last: u64, difference: u64, taken: bool, wrapped: bool) -> bool {
+    let sequence = (last % 65536 + difference % 65536) % 65536;
+    let number: u64 = if taken { 0 } else { 10 };
+    let held: u64 = if taken { 2 } else { 1 };
+    if wrapped {
+        return next(store, last, 11, sequence, number, 8);
+    }
+    next(store, last, 1, sequence, number, held)
+}
+
+pub fn sequence(n: u64) -> bool {
+    let mut store = [0u64; words::STORE];
+    let last = LAST[(n / 10 % 7) as usize];
+    let i = (n % 10) as usize;
+    let taken = TAKEN[i] == b't';
+    differs(&mut store, last, DIFFERENCES[i], taken, n / 70 % 2 == 1)
+}
+
+// A message with these steps, of a master that is known or not.
+fn far(store: &mut [u64], steps: u64, number: u64, known: bool) -> bool {
     start(store);
     hold(store, 6, if known { 1 } else { 0 });
     calls::is(
-        calls::register(store, 2, b'A', b'g', 7, STEP[i]),
+        calls::register(store, 2, b'A', b'g', 7, steps),
         number,
         0,
         0,
     )
+}
+
+pub fn steps(n: u64) -> bool {
+    let mut store = [0u64; words::STORE];
+    let i = (n % 12) as usize;
+    let number: u64 = if NEAR[i] == b't' { 0 } else { 11 };
+    far(&mut store, STEP[i], number, n / 12 % 2 == 1)
 }

@@ -1,9 +1,9 @@
 // Stores that are lent too short, and the order of 1, 16 and the rest.
-use crate::calls;
-use crate::full;
-use crate::starts;
-use crate::starts::Setup;
-use crate::words;
+use book_vectors::calls;
+use book_vectors::full;
+use book_vectors::starts;
+use book_vectors::starts::Setup;
+use book_vectors::words;
 
 // Ten lengths, six calls, on a full book and on words that are no book.
 pub const CASES: u64 = 120;
@@ -38,7 +38,7 @@ fn started(store: &mut [u64], ports: u64, number: u64) -> bool {
     starts::start(store, setup) as u64 == number
 }
 
-// How many messages the call puts out, or lets age out: all that are as old as can be.
+// A frame puts out the first message of a full ring, and a step of 1 all messages that are as old as can be.
 fn called(store: &mut [u64], call: u64, number: u64) -> bool {
     match call {
         0 => started(store, 8, number),
@@ -71,7 +71,7 @@ fn fill(store: &mut [u64], n: u64) {
 }
 
 // Whether the answer is right, a refusal changes no word, and no call a word past the book.
-pub fn one(n: u64, store: &mut [u64], before: &mut [u64]) -> bool {
+fn on(n: u64, store: &mut [u64], before: &mut [u64]) -> bool {
     let number = wanted(n);
     let size = LENGTHS[(n / 6 % 10) as usize];
     fill(store, n);
@@ -79,4 +79,10 @@ pub fn one(n: u64, store: &mut [u64], before: &mut [u64]) -> bool {
     let right = lent(store, size, n % 6, number);
     let changed = if number == 0 { words::BOOK } else { 0 };
     right & words::same_but(store, before, 0, changed)
+}
+
+pub fn one(n: u64) -> bool {
+    let mut store = [0u64; words::STORE];
+    let mut before = [0u64; words::STORE];
+    on(n, &mut store, &mut before)
 }

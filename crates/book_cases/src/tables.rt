@@ -2,7 +2,7 @@
 use crate::script;
 
 // F and G: ports, rule, intervals, number.
-pub fn fresh_starts(store: &mut [u64], before: &mut [u64]) {
+pub fn fresh_starts() {
     let table = b"\
         F 1 a 64 64 0;F 8 a 64 64 0;\
         F 0 a 64 64 14;F 9 a 64 64 14;F F a 64 64 14;\
@@ -17,17 +17,17 @@ pub fn fresh_starts(store: &mut [u64], before: &mut [u64]) {
         F 8 l FFFFFFFFFFFFFFF 1 0;R 8 A g 1 0 0 0;R 1 B g 1 0 0 0;\
         F 9 a 64 64 14;F 2 t 64 64 14;G 2 a 2 0 14;H 1 B1;H 8 A1;\
         F 2 a 64 64 0;H 1;H 2;F 2 a 64 64 0;F 1 a 64 64 0;";
-    script::run(b"fresh starts", table, store, before);
+    script::run(b"fresh starts", table);
 }
 
-pub fn registrations(store: &mut [u64], before: &mut [u64]) {
-    ports_and_frames(store, before);
-    own_and_acceptable(store, before);
-    full_ports(store, before);
+pub fn registrations() {
+    ports_and_frames();
+    own_and_acceptable();
+    full_ports();
 }
 
 // R: port, sender, frame, sequence, steps, number, evicted. 6, then the frame, then 7, 9, 10, 11.
-fn ports_and_frames(store: &mut [u64], before: &mut [u64]) {
+fn ports_and_frames() {
     let table = b"\
         F 2 a 64 64 0;\
         R 0 A g 0 0 6;R 3 A g 0 0 6;R 8 A g 0 0 6;R 9 A g 0 0 6;R 100 A g 0 0 6;R 101 A g 0 0 6;R FFFF A g 0 0 6;\
@@ -45,11 +45,11 @@ fn ports_and_frames(store: &mut [u64], before: &mut [u64]) {
         H 1 x1 y1 A3;H 2 x1;M 1 2 0 5 0;M 1 2 1 6 0;M 1 2 2 6 0;M 2 0 0 9 0;\
         F 8 a 64 64 0;R 8 A g 0 0 0 0;R 9 A g 0 0 6;R 108 A g 0 0 6;R 0 A g 0 0 6;H 8 A1;\
         F 1 a 64 64 0;R 1 A g 0 0 0 0;R 2 A g 0 0 6;R 0 A g 0 0 6;";
-    script::run(b"ports, frames and their order", table, store, before);
+    script::run(b"ports, frames and their order", table);
 }
 
 // 7, then 8, then 9, then 11, under each rule.
-fn own_and_acceptable(store: &mut [u64], before: &mut [u64]) {
+fn own_and_acceptable() {
     let table = b"\
         F 2 l 64 64 0;\
         R 1 o g 0 0 7;R 2 p g 0 FF 7;R 1 p g 0 0 8;R 2 o g 0 0 8;R 1 q g 0 0 8;R 1 p g 0 FF 8;\
@@ -65,11 +65,11 @@ fn own_and_acceptable(store: &mut [u64], before: &mut [u64]) {
         R 1 A g 0 0 0 0;R 1 B g 0 0 0 0;R 1 C g 0 0 8;\
         F 2 s 64 64 0;\
         R 1 A g 0 0 0 0;R 1 P g 0 0 0 0;R 1 Q g 0 0 8;R 2 P g 0 FE 0 0;R 2 O g 0 FF 11;";
-    script::run(b"own clock and acceptable senders", table, store, before);
+    script::run(b"own clock and acceptable senders", table);
 }
 
 // 7, 8, 9, 10 and 11 before 12. E: eight senders, one message each.
-fn full_ports(store: &mut [u64], before: &mut [u64]) {
+fn full_ports() {
     let table = b"\
         F 2 s 64 64 0;E 1 A 7;R 1 H g 0 FF 11;R 1 H g 0 FE 0 0;\
         H 1 A1 B1 C1 D1 E1 F1 G1 H1;\
@@ -82,16 +82,16 @@ fn full_ports(store: &mut [u64], before: &mut [u64]) {
         E 2 A 7;R 2 H g 0 0 12;R 2 I g FFFF 0 10;H 2 I2 A1 B1 C1 D1 E1 F1 G1;\
         F 1 a 64 64 0;E 1 A 8;R 1 I g 0 0 12;R 1 p g 0 0 9;R 1 p g 0 FF 9;R 1 o g 0 0 7;R 1 x g 0 0 12;\
         H 1 A1 B1 C1 D1 E1 F1 G1 H1;M 1 0 0 0 0;M 1 7 0 0 0;";
-    script::run(b"full ports", table, store, before);
+    script::run(b"full ports", table);
 }
 
-pub fn lists(store: &mut [u64], before: &mut [u64]) {
-    rings(store, before);
-    ports_apart(store, before);
+pub fn lists() {
+    rings();
+    ports_apart();
 }
 
 // S: so many messages in a row. The ninth puts out the first, and the order stays.
-fn rings(store: &mut [u64], before: &mut [u64]) {
+fn rings() {
     let table = b"\
         F 1 a 64 64 0;S 1 A 0 7;H 1 A7;R 1 A g 7 0 0 0;H 1 A8;\
         M 1 0 0 0 0;M 1 0 1 1 0;M 1 0 6 6 0;M 1 0 7 7 0;\
@@ -106,11 +106,11 @@ fn rings(store: &mut [u64], before: &mut [u64]) {
         F 1 a 64 64 0;S 1 A FFFC 8;M 1 0 3 FFFF 0;M 1 0 4 0 0;M 1 0 7 3 0;R 1 A g 4 0 0 1;M 1 0 0 FFFD 0;\
         F 1 a 64 64 0;R 1 A g 0 0 0 0;R 1 A g 7FFE 0 0 0;R 1 A g FFFC 0 0 0;R 1 A g 7FFA 0 0 0;H 1 A4;\
         R 1 A g 7FF9 0 10;R 1 A g FFF9 0 10;R 1 A g FFF8 0 0 0;M 1 0 2 FFFC 0;M 1 0 4 FFF8 0;";
-    script::run(b"rings", table, store, before);
+    script::run(b"rings", table);
 }
 
 // The same sender at several ports, and senders of one clock.
-fn ports_apart(store: &mut [u64], before: &mut [u64]) {
+fn ports_apart() {
     let table = b"\
         F 3 a 64 64 0;R 1 A g 5 0 0 0;R 2 A g 9 0 0 0;R 3 A g 1 0 0 0;\
         R 2 A g 5 0 10;R 2 A g 6 0 10;R 1 A g 6 0 0 0;R 3 A g 0 0 10;R 3 A g 1 0 0 0;\
@@ -119,16 +119,16 @@ fn ports_apart(store: &mut [u64], before: &mut [u64]) {
         R 2 B g 1 0 0 0;R 2 b g 1 0 0 0;R 2 a g 1 0 0 0;H 2 A1 B1 b1 a1;H 3 A2;\
         F 8 a 64 64 0;E 1 A 8;E 8 A 8;R 7 I g 0 0 0 0;R 2 I g 0 0 0 0;R 8 I g 0 0 12;R 1 I g 0 0 12;\
         H 2 I1;H 7 I1;H 3;H 4;H 5;H 6;S 7 I 1 7;R 7 I g 8 0 0 1;H 7 I8;H 8 A1 B1 C1 D1 E1 F1 G1 H1;";
-    script::run(b"ports apart", table, store, before);
+    script::run(b"ports apart", table);
 }
 
 // A: step, number, how many aged out.
-pub fn ages(store: &mut [u64], before: &mut [u64]) {
-    limits(store, before);
-    leaving(store, before);
+pub fn ages() {
+    limits();
+    leaving();
 }
 
-fn limits(store: &mut [u64], before: &mut [u64]) {
+fn limits() {
     let table = b"\
         F 1 a 1 1 0;A 0 0 0;A 3FFFFFFFFFFFFFFF 0 0;A 4000000000000000 13;\
         R 1 A g 0 0 0 0;A 3 0 0;M 1 0 0 0 3;H 1 A1;A 0 0 0;M 1 0 0 0 3;A 1 0 1;H 1;\
@@ -141,11 +141,11 @@ fn limits(store: &mut [u64], before: &mut [u64]) {
         R 1 A g 0 0 0 0;A 3FFFFFFFFFFFFFFA 0 0;R 1 A g 1 0 0 0;A 1 0 0;H 1 A2;A 4000000000000000 13;A 1 0 1;H 1 A1;M 1 0 0 1 2;\
         F 2 a 1 2 0;R 1 A g 0 0 0 0;R 2 A g 0 0 0 0;A 3 0 0;H 1 A1;A 1 0 1;H 1;H 2 A1;A 3 0 0;M 2 0 0 0 7;A 1 0 1;H 2;\
         F 2 a 2 1 0;R 1 A g 0 0 0 0;R 2 A g 0 0 0 0;R 2 B g 0 0 0 0;A 4 0 2;H 1 A1;H 2;M 1 0 0 0 4;A 4 0 1;H 1;";
-    script::run(b"limits of age", table, store, before);
+    script::run(b"limits of age", table);
 }
 
 // Fronts of rings that have wrapped, masters that leave and room that is used again.
-fn leaving(store: &mut [u64], before: &mut [u64]) {
+fn leaving() {
     let table = b"\
         F 1 a A A 0;S 1 A 0 1;A 1 0 0;S 1 A 1 1;A 1 0 0;S 1 A 2 1;A 1 0 0;S 1 A 3 1;A 1 0 0;S 1 A 4 1;A 1 0 0;\
         S 1 A 5 1;A 1 0 0;S 1 A 6 1;A 1 0 0;S 1 A 7 1;A 1 0 0;R 1 A g 8 0 0 1;A 1 0 0;R 1 A g 9 0 0 1;H 1 A8;\
@@ -160,5 +160,5 @@ fn leaving(store: &mut [u64], before: &mut [u64]) {
         R 1 G g 1 0 0 0;R 1 H g 1 0 0 0;R 2 H g 1 0 0 0;R 1 I g 0 0 12;A 1 0 16;H 1 A1 B1 D1 E1 G1 H1;H 2 H1;\
         R 1 I g 0 0 0 0;R 1 C g 0 0 0 0;R 1 F g 0 0 12;H 1 A1 B1 D1 E1 G1 H1 I1 C1;M 1 5 0 1 1;M 1 6 0 0 0;\
         E 2 A 7;R 2 I g 0 0 12;H 2 H1 A1 B1 C1 D1 E1 F1 G1;A 27 0 7;H 1 I1 C1;H 2 A1 B1 C1 D1 E1 F1 G1;A 1 0 9;H 1;H 2;";
-    script::run(b"masters that leave", table, store, before);
+    script::run(b"masters that leave", table);
 }

@@ -1,0 +1,148 @@
+// Changes one word of a full book, calls, and writes how many of the books are unsound or still sound, and how many answers are wrong: 16 is
+// right exactly where the book is unsound.
+use book_vectors::calls;
+use book_vectors::full;
+use book_vectors::rules;
+use book_vectors::words;
+use book_vectors::words::word;
+use foreign_master::Answer;
+use vectors::tally::Tally;
+
+// How many ways a word is changed.
+const CHANGES: usize = 10;
+
+// A bit the other way round, by its value.
+fn turned(x: u64, bit: u64) -> u64 {
+    let value = bit % 0x8000_0000_0000_0000 + 1;
+    if x / value % 2 == 0 {
+        return std::num::wrapping_add_u64(x, value);
+    }
+    std::num::wrapping_sub_u64(x, value)
+}
+
+// A word changed: none, all ones, by one, by one step or sequence where it holds these, or in one bit.
+fn changed(x: u64, change: usize) -> u64 {
+    match change {
+        0 => 0,
+        1 => 0xFFFF_FFFF_FFFF_FFFF,
+        2 => std::num::wrapping_add_u64(x, 1),
+        3 => std::num::wrapping_sub_u64(x, 1),
+        4 => std::num::wrapping_add_u64(x, 0x0001_0000),
+        5 => std::num::wrapping_add_u64(x, 0x0001_0000_0000),
+        6 => turned(x, 15),
+        7 => turned(x, 0x0001_FFFF_FFFF),
+        8 => turned(x, 0x0FFF_FFFF_FFFF_FFFF),
+        _ => turned(x, 0x7FFF_FFFF_FFFF_FFFF),
+    }
+}
+
+// Of the slots of masters held at ports 1 and 8, age and counts; of the rest one word in so many.
+fn slot_taken(q: usize, i: usize, w: usize, at: usize) -> bool {
+    let read = ((w == 2) | (w == 4)) & (i < 8);
+    if read & ((q == 0) | (q == 7)) {
+        return true;
+    }
+    if read { at % 11 == 0 } else { at % 61 == 0 }
+}
+
+// Which words are changed: the head, the heads of ports and of masters, and some of the slots.
+fn taken(at: usize) -> bool {
+    if at < 20 {
+        return true;
+    }
+    let q = (at - 20) / 820;
+    let w = (at - 20) % 820;
+    if w < 4 {
+        return true;
+    }
+    let i = (w - 4) / 68;
+    let m = (w - 4) % 68;
+    if m < 4 {
+        return true;
+    }
+    slot_taken(q, i, (m - 4) % 8, at)
+}
+
+// Whether an answer is right for a book that is sound or not: 16 and no word changed, or another answer.
+fn right(answer: Answer, sound: bool, store: &[u64], before: &[u64]) -> bool {
+    if sound {
+        return !calls::is(answer, 16, 0, 0);
+    }
+    calls::is(answer, 16, 0, 0) & words::same(store, before)
+}
+
+// A good frame, and a step of age.
+fn both(store: &mut [u64], before: &[u64], sound: bool) -> bool {
+    let first = calls::register(store, 1, b'A', b'g', 5, 0);
+    let registers = right(first, sound, store, before);
+    words::copy(before, store);
+    let second = foreign_master::step_age(store, 1);
+    registers & right(second, sound, store, before)
+}
+
+// The tallies of the books that are still sound, and of those that are not.
+struct Tallies {
+    sound: Tally,
+    unsound: Tally,
+}
+
+fn counted(t: Tallies, sound: bool, right: bool) -> Tallies {
+    let kept = t.sound;
+    let broken = t.unsound;
+    if sound {
+        return Tallies {
+            sound: kept.with(right),
+            unsound: broken,
+        };
+    }
+    Tallies {
+        sound: kept,
+        unsound: broken.with(right),
+    }
+}
+
+// One change of one word; the book is whole again afterwards.
+fn one(t: Tallies, store: &mut [u64], book: &mut [u64], at: usize, change: usize) -> Tallies {
+    let was = word(book, at);
+    words::put(book, at, changed(was, change));
+    words::copy(book, store);
+    let sound = rules::sound(book);
+    let answered = both(store, book, sound);
+    words::put(book, at, was);
+    counted(t, sound, answered)
+}
+
+// All changes of a word, if it is one of those that are changed.
+fn every(t: Tallies, store: &mut [u64], book: &mut [u64], at: usize) -> Tallies {
+    if !taken(at) {
+        return t;
+    }
+    let mut all = t;
+    for change in 0..CHANGES {
+        all = one(all, store, book, at, change);
+    }
+    all
+}
+
+fn all(store: &mut [u64], book: &mut [u64]) -> Tallies {
+    let none = Tally { cases: 0, wrong: 0 };
+    let mut all = Tallies {
+        sound: none,
+        unsound: none,
+    };
+    full::fill(book);
+    for at in 0..words::BOOK {
+        all = every(all, store, book, at);
+    }
+    all
+}
+
+fn main() {
+    let mut store = [0u64; words::STORE];
+    let mut book = [0u64; words::STORE];
+    let t = all(&mut store, &mut book);
+    let broken = t.unsound;
+    let kept = t.sound;
+    broken.report(b"one word changed, unsound");
+    kept.report(b"one word changed, sound");
+}
