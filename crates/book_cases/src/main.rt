@@ -3,13 +3,11 @@
 mod rows;
 mod script;
 mod sequences;
-mod short;
 mod tables;
 
 use vectors::tally::Tally;
 
 enum Group {
-    Short,
     Sequence,
     Steps,
 }
@@ -17,7 +15,6 @@ enum Group {
 // Whether the case of a number is right.
 fn right(group: Group, n: u64) -> bool {
     match group {
-        Group::Short => short::one(n),
         Group::Sequence => sequences::sequence(n),
         Group::Steps => sequences::steps(n),
     }
@@ -34,7 +31,6 @@ fn run(name: &[u8], group: Group, cases: u64) {
 
 fn main() {
     tables::fresh_starts();
-    run(b"stores too short", Group::Short, short::CASES);
     tables::registrations();
     run(b"sequences", Group::Sequence, sequences::SEQUENCES);
     run(b"steps", Group::Steps, sequences::STEPS);

@@ -1,5 +1,7 @@
-// Changes one word of a full book, calls, and writes how many of the books are unsound or still sound, and how many answers are wrong: 16 is
-// right exactly where the book is unsound.
+// Runs the calls on stores that are too short, and on full books of which one word is changed, and writes for each group how many cases it
+// has and how many are wrong: 1 comes first, and 16 is right exactly where a book is unsound.
+mod short;
+
 use book_vectors::calls;
 use book_vectors::full;
 use book_vectors::rules;
@@ -137,7 +139,15 @@ fn all(store: &mut [u64], book: &mut [u64]) -> Tallies {
     all
 }
 
-fn main() {
+fn short_stores() {
+    let mut t = Tally { cases: 0, wrong: 0 };
+    for n in 0..short::CASES {
+        t = t.with(short::one(n));
+    }
+    t.report(b"stores too short");
+}
+
+fn changed_words() {
     let mut store = [0u64; words::STORE];
     let mut book = [0u64; words::STORE];
     let t = all(&mut store, &mut book);
@@ -145,4 +155,9 @@ fn main() {
     let kept = t.sound;
     broken.report(b"one word changed, unsound");
     kept.report(b"one word changed, sound");
+}
+
+fn main() {
+    short_stores();
+    changed_words();
 }
