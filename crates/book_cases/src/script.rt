@@ -6,6 +6,7 @@ use book_vectors::starts;
 use book_vectors::starts::Setup;
 use book_vectors::words;
 use book_vectors::words::word;
+use foreign_master::Answer;
 use vectors::tally::Tally;
 
 // F ports rule interval interval number: a fresh start, with the first interval for port 1 and the second for the others.
@@ -32,31 +33,55 @@ fn fresh_but_one(store: &mut [u64], before: &[u64], row: &[u8]) -> bool {
     starts::right(store, before, setup, rows::decimal(row, 5))
 }
 
-// R port sender frame sequence steps number evicted: a frame at a port. A refusal changes no word, and a message taken none of another
-// port's.
-fn registered(store: &mut [u64], before: &[u64], row: &[u8]) -> bool {
-    let port = rows::hex(row, 1);
-    let letter = rows::letter(row, 2);
-    let kind = rows::letter(row, 3);
-    let sequence = rows::hex(row, 4);
-    let steps = rows::hex(row, 5);
-    let want = rows::decimal(row, 6);
-    let answer = calls::register(store, port, letter, kind, sequence, steps);
-    if want != 0 {
-        return calls::is(answer, want, 0, 0) & words::same(store, before);
-    }
-    let at = words::port_at(port);
-    calls::is(answer, 0, rows::decimal(row, 7), 0)
-        & words::same_but(store, before, at, at + 820)
-        & calls::newest(store, port, letter, kind, sequence, steps)
+// What a frame says, and at which port.
+struct Sent {
+    port: u64,
+    letter: u8,
+    kind: u8,
+    sequence: u64,
+    steps: u64,
 }
 
-// A step number gone: a step of age. A refusal changes no word, and a step taken none of the head, of an interval or past the book.
+fn sending(row: &[u8]) -> Sent {
+    Sent {
+        port: rows::hex(row, 1),
+        letter: rows::letter(row, 2),
+        kind: rows::letter(row, 3),
+        sequence: rows::hex(row, 4),
+        steps: rows::hex(row, 5),
+    }
+}
+
+// A refusal has this number, and changes no word.
+fn refused(answer: Answer, number: u64, store: &[u64], before: &[u64]) -> bool {
+    calls::is(answer, number, 0, 0) & words::same(store, before)
+}
+
+// A message taken is the last of its sender, and changes no word of another port.
+fn taken(answer: Answer, evicted: u64, s: Sent, store: &[u64], before: &[u64]) -> bool {
+    let at = words::port_at(s.port);
+    calls::is(answer, 0, evicted, 0)
+        & words::same_but(store, before, at, at + 820)
+        & calls::newest(store, s.port, s.letter, s.kind, s.sequence, s.steps)
+}
+
+// R port sender frame sequence steps number evicted: a frame at a port.
+fn registered(store: &mut [u64], before: &[u64], row: &[u8]) -> bool {
+    let s = sending(row);
+    let number = rows::decimal(row, 6);
+    let answer = calls::register(store, s.port, s.letter, s.kind, s.sequence, s.steps);
+    if number != 0 {
+        return refused(answer, number, store, before);
+    }
+    taken(answer, rows::decimal(row, 7), s, store, before)
+}
+
+// A step number gone: a step of age, which changes no word of the head, of an interval or past the book.
 fn aged(store: &mut [u64], before: &[u64], row: &[u8]) -> bool {
-    let want = rows::decimal(row, 2);
+    let number = rows::decimal(row, 2);
     let answer = foreign_master::step_age(store, rows::hex(row, 1));
-    if want != 0 {
-        return calls::is(answer, want, 0, 0) & words::same(store, before);
+    if number != 0 {
+        return refused(answer, number, store, before);
     }
     calls::is(answer, 0, 0, rows::decimal(row, 3))
         & words::same_but(store, before, 20, 6580)
@@ -102,18 +127,22 @@ fn several(store: &mut [u64], row: &[u8]) -> bool {
     true
 }
 
+// Whether master i of a port is that of a letter, and holds as many messages as a digit says.
+fn holds_so_many(store: &[u64], port: u64, i: u64, letter: u8, digit: u8) -> bool {
+    let messages = word(store, words::master_at(port, i) + 3);
+    calls::is_sender(store, port, i, letter) & (messages == digit as u64 % 16)
+}
+
 // H port sender-and-count ..: the masters of a port in their order, and how many messages each holds.
 fn held(store: &[u64], row: &[u8]) -> bool {
     let port = rows::hex(row, 1);
-    let count = word(store, words::port_at(port) + 1);
-    if row.len() as u64 / 3 != count % 100 + 1 {
+    let count = word(store, words::port_at(port) + 1) % 100;
+    if row.len() as u64 / 3 != count + 1 {
         return false;
     }
-    for i in 0..count % 100 {
+    for i in 0..count {
         let at = 4 + i as usize * 3;
-        let messages = word(store, words::master_at(port, i) + 3);
-        let is = calls::is_sender(store, port, i, rows::cell(row, at));
-        if !is | (messages != rows::cell(row, at + 1) as u64 % 16) {
+        if !holds_so_many(store, port, i, rows::cell(row, at), rows::cell(row, at + 1)) {
             return false;
         }
     }

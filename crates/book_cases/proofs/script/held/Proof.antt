@@ -6,10 +6,10 @@ use Rattle.book_cases.proofs.script.held.Statement.{statement}
 use Rattle.book_cases.proofs.script.held.Tie as tie
 
 abbrev Inv-loop : tie.InvT-loop
-Inv-loop store row port count i₀ i-end i = i ≤ i-end
+Inv-loop store row port count i₀ i = i ≤ count
 
 abbrev μ-loop : tie.MeasureT-loop
-μ-loop store row port count i₀ i-end i = i-end - i
+μ-loop store row port count i₀ i = count - i
 
 pub held-spec : {M : Type 1} → statement M
 held-spec =
@@ -30,10 +30,6 @@ held-spec =
     (λ c. search needs)
     (λ c κs. search needs)
     (λ c κs. search needs)
-    (λ c κs. search needs)
-    (λ c. search needs)
-    (λ c κs. search needs)
-    (λ c. search needs)
     (λ c. search needs)
     (λ c. search needs)
     (λ c. search needs)
