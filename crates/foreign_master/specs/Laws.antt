@@ -6,8 +6,8 @@ use mathlib.Core.Bool.{Bool, true, false, cond, true≢false}
 use mathlib.Core.List.{List, [], _∷_, _++_}
 use mathlib.Core.Logic.{⊎-elim}
 use native.Mathlib.Omega.{arith}
-use borrow.Author.Tests.{lt-ltb, le-ltb, ltb-false, eqb-true, eqb-false}
-use lib.Dec.{ltb, eqb}
+use borrow.Author.Tests.{le-leb, lt-ltb, le-ltb, ltb-false, eqb-true, eqb-false}
+use lib.Dec.{ltb, leb, eqb}
 use lib.ListN.{length, getD, length-append}
 use Rattle.wire.specs.Be.{Bytes}
 use Rattle.wire.specs.Refusal.{onZero, on-done, on-refused}
@@ -19,7 +19,7 @@ use Rattle.slot.specs.Blocks.{block, le-or-lt}
 use Rattle.slot.specs.Slot.{Whole}
 use Rattle.slot.specs.declared.ForeignAnnounceMessage.{ForeignAnnounceMessage}
 use Rattle.history.specs.Rules.{stepMax}
-use Rattle.history.specs.Port.{Site, Port, Frame, bad, announce, turn, hear, idle}
+use Rattle.history.specs.Port.{Site, Port, Frame, offered, bad, announce, turn, hear, idle}
 use Rattle.history.specs.Book.{Book, Call, register, age, share, answerFrom, number, turnsFrom, turns, after, freshBook}
 use Rattle.history.specs.Sound.{soundBook, startable}
 use Rattle.history.specs.Tests.{by}
@@ -39,7 +39,7 @@ use Rattle.fresh.specs.View.{begun-length, begun-view, begun-sound}
 use Rattle.foreign_master.specs.declared.Tallies.{Tallies}
 use Rattle.foreign_master.specs.declared.Answer.{Answer}
 use Rattle.foreign_master.specs.declared.Answer.the-variants.{Done, Refused}
-use Rattle.foreign_master.specs.Calls.{talliesOf, answerTo, answerIn, exitIn, freshAnswer, freshExit, heldOf, frameOf, registerCall, takenIn, registerAnswer, registerExit, ageAnswer, ageExit}
+use Rattle.foreign_master.specs.Calls.{qualified, talliesOf, answerTo, answerIn, exitIn, freshAnswer, freshExit, heldOf, frameOf, registerCall, takenIn, registerAnswer, registerExit, ageAnswer, ageExit}
 use Rattle.foreign_master.specs.Steps.{Sound, checked, refused-later, done-both, whole-frame, refused-some, one-less}
 
 -- ---- a refusal changes no word
@@ -217,3 +217,11 @@ module _ (s : List ℕ) (S : Site) (ns : List ℕ) where
             book = ap bookOf (sym begins) ∙ begun-view S ns s room q;
             sound = ap storeRefusal (sym begins) ∙ passes (begun S ns s) (omega (arith, begun-length S ns s room)) (begun-sound S ns s room q);
           }
+
+-- ---- a candidate
+
+-- a list offers a message exactly when it has as many as that
+pub offers : (ms : List ForeignAnnounceMessage) → leb 1 (length (offered ms)) ≡ qualified (length ms)
+offers [] = refl
+offers (x ∷ []) = refl
+offers (x ∷ y ∷ ms) = sym (le-leb 2 (length (x ∷ y ∷ ms)) (omega arith))
