@@ -5,13 +5,17 @@ mod short;
 use book_vectors::calls;
 use book_vectors::full;
 use book_vectors::rules;
+use book_vectors::sent;
 use book_vectors::words;
 use book_vectors::words::word;
 use foreign_master::Answer;
 use vectors::tally::Tally;
 
 // How many ways a word is changed.
-const CHANGES: usize = 10;
+const CHANGES: usize = 11;
+
+// Room for a ninth port, which no book has.
+const STORE: usize = 7400;
 
 // A bit the other way round, by its value.
 fn turned(x: u64, bit: u64) -> u64 {
@@ -22,7 +26,7 @@ fn turned(x: u64, bit: u64) -> u64 {
     std::num::wrapping_sub_u64(x, value)
 }
 
-// A word changed: none, all ones, by one, by one step or sequence where it holds these, or in one bit.
+// A word changed: none, all ones, by one, by one step or sequence where it holds these, in one bit, or to a clock of the list.
 fn changed(x: u64, change: usize) -> u64 {
     match change {
         0 => 0,
@@ -34,35 +38,9 @@ fn changed(x: u64, change: usize) -> u64 {
         6 => turned(x, 15),
         7 => turned(x, 0x0001_FFFF_FFFF),
         8 => turned(x, 0x0FFF_FFFF_FFFF_FFFF),
-        _ => turned(x, 0x7FFF_FFFF_FFFF_FFFF),
+        9 => turned(x, 0x7FFF_FFFF_FFFF_FFFF),
+        _ => sent::clock(b'A'),
     }
-}
-
-// Of the slots of masters held at ports 1 and 8, age and counts; of the rest one word in so many.
-fn slot_taken(q: usize, i: usize, w: usize, at: usize) -> bool {
-    let read = ((w == 2) | (w == 4)) & (i < 8);
-    if read & ((q == 0) | (q == 7)) {
-        return true;
-    }
-    if read { at % 11 == 0 } else { at % 61 == 0 }
-}
-
-// Which words are changed: the head, the heads of ports and of masters, and some of the slots.
-fn taken(at: usize) -> bool {
-    if at < 20 {
-        return true;
-    }
-    let q = (at - 20) / 820;
-    let w = (at - 20) % 820;
-    if w < 4 {
-        return true;
-    }
-    let i = (w - 4) / 68;
-    let m = (w - 4) % 68;
-    if m < 4 {
-        return true;
-    }
-    slot_taken(q, i, (m - 4) % 8, at)
 }
 
 // Whether an answer is right for a book that is sound or not: 16 and no word changed, or another answer.
@@ -114,11 +92,8 @@ fn one(t: Tallies, store: &mut [u64], book: &mut [u64], at: usize, change: usize
     counted(t, sound, answered)
 }
 
-// All changes of a word, if it is one of those that are changed.
+// All changes of a word.
 fn every(t: Tallies, store: &mut [u64], book: &mut [u64], at: usize) -> Tallies {
-    if !taken(at) {
-        return t;
-    }
     let mut all = t;
     for change in 0..CHANGES {
         all = one(all, store, book, at, change);
@@ -148,8 +123,8 @@ fn short_stores() {
 }
 
 fn changed_words() {
-    let mut store = [0u64; words::STORE];
-    let mut book = [0u64; words::STORE];
+    let mut store = [0u64; STORE];
+    let mut book = [0u64; STORE];
     let t = all(&mut store, &mut book);
     let broken = t.unsound;
     let kept = t.sound;
