@@ -30,7 +30,7 @@ use Rattle.admission.specs.PortView.{Usual, order-view, room-view, place
 -- ---- the turns of a book's ports at a call
 
 module _ (S : Site) (c : Call ForeignAnnounceMessage) where
-  turns-tab : (n k : ℕ) (g : ℕ → Port ForeignAnnounceMessage) → turnsFrom reads S k c (tab n g) ≡ tab n (λ j. turn reads S (k + j) (share (k + j) c) (g j))
+  pub turns-tab : (n k : ℕ) (g : ℕ → Port ForeignAnnounceMessage) → turnsFrom reads S k c (tab n g) ≡ tab n (λ j. turn reads S (k + j) (share (k + j) c) (g j))
   turns-tab zero k g = refl
   turns-tab (suc n) k g =
       ap₂ (λ (T : Turn ForeignAnnounceMessage) (Ts : List (Turn ForeignAnnounceMessage)). T ∷ Ts)
@@ -43,7 +43,7 @@ module _ (S : Site) (c : Call ForeignAnnounceMessage) where
       next k j = omega arith
 
 -- what one turn alone adds to a tally
-total-none : (f : Turn ForeignAnnounceMessage → List ForeignAnnounceMessage) (n : ℕ) (T : ℕ → Turn ForeignAnnounceMessage) → ((j : ℕ) → f (T j) ≡ []) → total f (tab n T) ≡ 0
+pub total-none : (f : Turn ForeignAnnounceMessage → List ForeignAnnounceMessage) (n : ℕ) (T : ℕ → Turn ForeignAnnounceMessage) → ((j : ℕ) → f (T j) ≡ []) → total f (tab n T) ≡ 0
 total-none f zero T o = refl
 total-none f (suc n) T o = simp (o zero, total-none f n (λ j. T (suc j)) (λ j. o (suc j)))
 

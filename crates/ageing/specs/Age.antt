@@ -10,7 +10,8 @@ use Rattle.slot.specs.Blocks.{block}
 use Rattle.history.specs.Rules.{messagesMax, ageLimit}
 use Rattle.history.specs.Port.{young}
 use Rattle.book.specs.Below.{first}
-use Rattle.book.specs.Layout.{portWords, portAt, masterWords, slotAt, masterAt, messageAt, reads}
+use Rattle.book.specs.Each.{eachTo}
+use Rattle.book.specs.Layout.{headWords, portWords, portAt, masterWords, slotAt, masterAt, messageAt, reads}
 
 -- ---- a master
 
@@ -94,9 +95,7 @@ gonePort step p = goneTo step (ageLimit (getD p 0 0)) (getD p 1 0) p
 
 -- the first n ports aged
 abbrev pub agedPortsTo : ℕ → ℕ → List ℕ → List ℕ
-agedPortsTo step zero s = s
-agedPortsTo step (suc n) s =
-    put (agedPortsTo step n s) (portAt n) (agedPort step (block (agedPortsTo step n s) (portAt n) portWords))
+agedPortsTo step n s = eachTo headWords portWords (agedPort step) n s
 
 -- how many of their messages go
 abbrev pub gonePortsTo : ℕ → ℕ → List ℕ → ℕ

@@ -4,19 +4,16 @@ use Prim.Native.Nat.{ℕ, zero, suc, _+_, _^_, _≤_, _<_}
 use mathlib.Core.Path.{_≡_, refl, sym, ap, ap₂, _∙_}
 use mathlib.Core.Bool.{Bool, true, cond}
 use mathlib.Core.List.{List, [], _∷_, _++_, map}
-use mathlib.Core.Logic.{⊎-elim}
 use native.Mathlib.Omega.{arith}
-use native.Mathlib.Nat.{eq-or-lt-of-le, le-of-suc-le-suc, not-suc-le-zero}
 use borrow.Author.Tests.{lt-ltb}
 use lib.ListN.{length, getD}
-use Rattle.wire.specs.Be.{put}
-use Rattle.wire.specs.BeLaws.{length-put, getD-put-before}
-use Rattle.slot.specs.Blocks.{block, length-block, grid-same, grid-other}
+use Rattle.slot.specs.Blocks.{block, length-block}
 use Rattle.slot.specs.declared.ForeignAnnounceMessage.{ForeignAnnounceMessage}
-use Rattle.history.specs.Rules.{portsMax, listedMax, ageLimit, stepMax}
+use Rattle.history.specs.Rules.{ageLimit, stepMax}
 use Rattle.history.specs.Port.{Port, Site, Turn, idle, pass, agePort, turn}
 use Rattle.history.specs.Book.{age, total, turnsFrom, turns, after}
 use Rattle.book.specs.Below.{tab, tab-snoc, tab-ext, map-tab}
+use Rattle.book.specs.Each.{Treated, treated}
 use Rattle.book.specs.Layout.{portWords, headWords, storeWords, portAt, portOf, siteOf, bookOf, reads, site-same}
 use Rattle.book.specs.Rules.{soundWords, held, port-held, master-held}
 use Rattle.ageing.specs.Age.{RingsFit, agedPort, gonePort, agedPortsTo, gonePortsTo, agedStore, agedOut}
@@ -24,45 +21,23 @@ use Rattle.ageing.specs.PortView.{length-agedPort, port-aged, port-gone}
 
 -- ---- the words
 
--- what holds after the first n ports of s have been aged
-pub record Aged (step : ℕ) (s : List ℕ) (n : ℕ) (t : List ℕ) : Type 0 where
-  pub size : length t ≡ length s
-  pub word : (j : ℕ) → j < headWords → getD t j 0 ≡ getD s j 0
-  pub later : (i : ℕ) → n ≤ i → i < portsMax → block t (portAt i) portWords ≡ block s (portAt i) portWords
-  pub done : (i : ℕ) → i < n → block t (portAt i) portWords ≡ agedPort step (block s (portAt i) portWords)
+-- what holds of t after the first n ports of s have been aged
+abbrev pub Aged : ℕ → List ℕ → ℕ → List ℕ → Type 0
+Aged step s n t = Treated headWords portWords (agedPort step) (getD s 0 0) s n t
 
 -- what soundness says of a port's rings
 pub rings-fit : (s : List ℕ) → soundWords s ≡ true → (q : ℕ) → q < getD s 0 0 → RingsFit (block s (portAt q) portWords)
 rings-fit s sound q h i l = master-held s sound q h i l .few
 
 module _ (step : ℕ) (s : List ℕ) (room : storeWords ≤ length s) (sound : soundWords s ≡ true) where
-  -- one port more
-  next-aged : (n : ℕ) (t : List ℕ) → n < getD s 0 0 → n < portsMax → Aged step s n t
-      → Aged step s (suc n) (put t (portAt n) (agedPort step (block t (portAt n) portWords)))
-  next-aged n t h u a =
-      let w : List ℕ = agedPort step (block t (portAt n) portWords) in
-      let same : block t (portAt n) portWords ≡ block s (portAt n) portWords = a .later n (omega arith) u in
-      let z : length w ≡ portWords =
-      ap (λ (p : List ℕ). length (agedPort step p)) same
-      ∙ length-agedPort step (block s (portAt n) portWords) (length-block s (portAt n) portWords (omega arith)) (port-held s sound n h .masters) in
-      let fits : portAt n + portWords ≤ length t = omega (arith, a .size) in
-      record {
-        size = length-put t (portAt n) w (omega (arith, z)) ∙ a .size;
-        word = λ j l. getD-put-before t (portAt n) w j (omega arith) (omega arith) ∙ a .word j l;
-        later = λ i l v. grid-other t w headWords portWords n z fits i (λ e. omega arith) ∙ a .later i (omega arith) v;
-        done =
-            λ i l.
-            ⊎-elim
-            (λ e. ap (λ (k : ℕ). block (put t (portAt n) w) (portAt k) portWords) e ∙ grid-same t w headWords portWords n z fits
-            ∙ ap (agedPort step) (same ∙ ap (λ (k : ℕ). block s (portAt k) portWords) (sym e)))
-            (λ lt. grid-other t w headWords portWords n z fits i (λ e. omega arith) ∙ a .done i lt)
-            (eq-or-lt-of-le (le-of-suc-le-suc l));
-      }
+  -- a port keeps its length
+  keeps : (q : ℕ) → q < getD s 0 0 → length (agedPort step (block s (portAt q) portWords)) ≡ portWords
+  keeps q h =
+      length-agedPort step (block s (portAt q) portWords) (length-block s (portAt q) portWords (omega (arith, held s sound .ports))) (port-held s sound q h .masters)
 
   -- after any number of ports
   pub aged-ports : (n : ℕ) → n ≤ getD s 0 0 → Aged step s n (agedPortsTo step n s)
-  aged-ports zero h = record { size = refl; word = λ j l. refl; later = λ i l v. refl; done = λ i l. absurd (not-suc-le-zero l) }
-  aged-ports (suc n) h = next-aged n (agedPortsTo step n s) (omega arith) (omega (arith, held s sound .ports)) (aged-ports n (omega arith))
+  aged-ports = treated headWords portWords (agedPort step) (getD s 0 0) s (omega (arith, held s sound .ports)) keeps
 
   -- the store keeps its length
   pub aged-length : length (agedStore step s) ≡ length s
@@ -72,7 +47,7 @@ module _ (step : ℕ) (s : List ℕ) (room : storeWords ≤ length s) (sound : s
 -- ---- the turns of the ports
 
 -- one turn more in a tally
-total-snoc : {A : Type 0} (f : Turn A → List A) (Ts : List (Turn A)) (T : Turn A) → total f (Ts ++ (T ∷ [])) ≡ total f Ts + length (f T)
+pub total-snoc : {A : Type 0} (f : Turn A → List A) (Ts : List (Turn A)) (T : Turn A) → total f (Ts ++ (T ∷ [])) ≡ total f Ts + length (f T)
 total-snoc f [] T = omega arith
 total-snoc f (U ∷ Ts) T = omega (arith, total-snoc f Ts T)
 

@@ -1,5 +1,6 @@
 -- The definitions and laws of the store.
 pub mod Below
 pub mod Layout
+pub mod Each
 pub mod Rules
 pub mod View

@@ -1,10 +1,11 @@
 -- When the words of a store are a sound book, level by level, and what soundness gives a caller.
 -- Assumes nothing.
 use Prim.Native.Nat.{ℕ, _+_, _-_, _^_, _≤_, _<_}
-use mathlib.Core.Bool.{Bool, true, not, _&&_, _||_, cond}
+use mathlib.Core.Bool.{Bool, true, false, not, _&&_, _||_, cond}
 use mathlib.Core.List.{List}
-use mathlib.Core.Path.{_≡_, ap, _∙_}
-use borrow.Author.Tests.{leb-true, ltb-true}
+use mathlib.Core.Path.{_≡_, refl, ap, _∙_}
+use borrow.Author.Tests.{leb-true, ltb-true, ltb-false, eqb-false, not-true}
+use native.Mathlib.Omega.{arith}
 use lib.Dec.{ltb, leb, eqb}
 use lib.ListN.{length, getD}
 use Rattle.wire.specs.Below.{both}
@@ -81,6 +82,20 @@ soundWords s =
 unfoldable pub storeRefusal : List ℕ → ℕ
 storeRefusal s = cond (ltb (length s) storeWords) 1 (cond (soundWords s) 0 16)
 
+-- what passes is long enough, and its book is sound
+pub record Passed (s : List ℕ) : Type 0 where
+  pub room : storeWords ≤ length s
+  pub sound : soundWords s ≡ true
+
+pub checked : (s : List ℕ) → storeRefusal s ≡ 0 → Passed s
+unfolding storeRefusal
+checked s e = by (ltb (length s) storeWords) (soundWords s) refl refl e
+  where
+    by : (b c : Bool) → ltb (length s) storeWords ≡ b → soundWords s ≡ c → _≡_ {A = ℕ} (cond b 1 (cond c 0 16)) 0 → Passed s
+    by true c p q e = absurd (omega arith)
+    by false true p q e = record { room = ltb-false (length s) storeWords p; sound = q }
+    by false false p q e = absurd (omega arith)
+
 -- ---- what soundness gives a caller
 
 pub record Held (s : List ℕ) : Type 0 where
@@ -131,6 +146,17 @@ held-master h p i sound =
       few = leb-true (getD m 3 0) messagesMax (u .1);
       message = λ k l. all-at (ruleAt limit m) (getD m 3 0) k l (t .1);
     }
+
+-- its clock is not our own
+pub placed-foreign : (h p : List ℕ) (i : ℕ) → placed h p i ≡ true → getD (block p (masterAt i) masterWords) 0 0 ≡ getD h 1 0 → ⊥
+unfolding placed masterSound
+placed-foreign h p i sound =
+    let m : List ℕ = block p (masterAt i) masterWords in
+    let limit : ℕ = ageLimit (getD p 0 0) in
+    let s = both (eqb (place p (identityOf m)) i) (masterSound h limit m) sound in
+    let t = both (leb 1 (getD m 3 0) && leb (getD m 3 0) messagesMax && not (eqb (getD m 0 0) (getD h 1 0)) && acceptsHead h (getD m 0 0)) (all (getD m 3 0) (ruleAt limit m)) (s .1) in
+    let u = and₄ (leb 1 (getD m 3 0)) (leb (getD m 3 0) messagesMax) (not (eqb (getD m 0 0) (getD h 1 0))) (acceptsHead h (getD m 0 0)) (t .0) in
+    eqb-false (getD m 0 0) (getD h 1 0) (not-true (eqb (getD m 0 0) (getD h 1 0)) (u .2))
 
 -- the same of port q and of its master i, in the store
 pub port-held : (s : List ℕ) → soundWords s ≡ true → (q : ℕ) → q < getD s 0 0 → HeldPort (block s 0 headWords) (block s (portAt q) portWords)

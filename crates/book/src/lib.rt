@@ -78,7 +78,7 @@ pub fn sequence_at(master: &[u64], k: usize) -> u64
     master[at + 4] / 65536 / 65536 % 65536
 }
 
-fn steps_at(master: &[u64], k: usize) -> u64
+pub fn steps_at(master: &[u64], k: usize) -> u64
     requires { ⌜ length (now master) ≡ masterWords ⌝ }
     ensures { λ r. ⌜ r ≡ steps reads (messageAt (now (master .entry)) k) ⌝ }
 {

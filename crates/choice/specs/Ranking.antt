@@ -20,7 +20,7 @@ use Rattle.choice.specs.Agreement.{SameData, Foreign}
 use Rattle.choice.specs.Chosen.{Weak, weak-by}
 
 -- the numbers that decide between candidates of one grandmaster, and between any: the lower row is the better
-abbrev tieRow : Candidate → List ℕ
+abbrev pub tieRow : Candidate → List ℕ
 tieRow c = c .«steps_removed» ∷ (topologyRow (datasetOf c) ++ (c .age ∷ []))
 
 abbrev row : Candidate → List ℕ
@@ -105,7 +105,7 @@ module _ (c d : Candidate) where
       differ e = n (row-grandmaster (datasetOf c) (datasetOf d) (stand-equal (rw e at (stand (qualityRow (datasetOf c)) (qualityRow (datasetOf d))))))
 
   -- one grandmaster
-  ranking-35 : datasetOf c .«gm_identity» ≡ datasetOf d .«gm_identity» → Foreign (datasetOf c) → Foreign (datasetOf d) → ranking c d ≡ flip (lex (tieRow c) (tieRow d))
+  pub ranking-35 : datasetOf c .«gm_identity» ≡ datasetOf d .«gm_identity» → Foreign (datasetOf c) → Foreign (datasetOf d) → ranking c d ≡ flip (lex (tieRow c) (tieRow d))
   unfolding ranking lex
   ranking-35 e f g = rw (same-grandmaster (datasetOf c) (datasetOf d) e) (go (gap (c .«steps_removed») (d .«steps_removed»)))
     where

@@ -1,10 +1,10 @@
 -- What the three calls answer, and every word of the store afterwards. A refusal changes no word.
 -- Assumes nothing.
 use Prim.Native.Nat.{ℕ, _-_}
-use mathlib.Core.Bool.{Bool, cond}
+use mathlib.Core.Bool.{cond}
 use mathlib.Core.List.{List}
 use mathlib.Core.Option.{Option, none, some}
-use lib.Dec.{ltb, leb}
+use lib.Dec.{ltb}
 use lib.ListN.{length}
 use Rattle.wire.specs.Refusal.{onZero}
 use Rattle.announce.specs.declared.AnnounceMessage.{AnnounceMessage}
@@ -48,12 +48,6 @@ answerIn s c = onZero (storeRefusal s) (answerTo c (bookOf s)) Refused
 
 unfoldable pub exitIn : List ℕ → Call ForeignAnnounceMessage → List ℕ → List ℕ
 exitIn s c work = onZero (storeRefusal s) (onZero (number c (turns reads c (bookOf s))) work (λ _. s)) (λ _. s)
-
--- ---- a candidate
-
--- a master with two messages or more offers its newest
-abbrev pub qualified : ℕ → Bool
-qualified messages = leb 2 messages
 
 -- ---- fresh start: 1, then 14
 

@@ -3,11 +3,11 @@
 use Prim.Native.Nat.{ℕ, zero, suc, _+_, _-_, _≤_, _<_}
 use mathlib.Core.Path.{_≡_, refl, sym, ap, _∙_, subst}
 use mathlib.Core.Bool.{Bool, true, false, cond, true≢false}
-use mathlib.Core.List.{List, [], _∷_, _++_}
+use mathlib.Core.List.{List, [], _∷_}
 use mathlib.Core.Logic.{⊎-elim}
 use native.Mathlib.Omega.{arith}
-use borrow.Author.Tests.{le-leb, lt-ltb, le-ltb, ltb-false, eqb-true, eqb-false}
-use lib.Dec.{ltb, leb, eqb}
+use borrow.Author.Tests.{lt-ltb, le-ltb, ltb-false, eqb-true, eqb-false}
+use lib.Dec.{ltb, eqb}
 use lib.ListN.{length, getD, length-append}
 use Rattle.wire.specs.Be.{Bytes}
 use Rattle.wire.specs.Refusal.{onZero, on-done, on-refused}
@@ -16,18 +16,17 @@ use Rattle.frame.specs.declared.FrameRead.{FrameRead}
 use Rattle.frame.specs.declared.FrameRead.the-variants as read
 use Rattle.frame.specs.Frame.{readFrame}
 use Rattle.slot.specs.Blocks.{block, le-or-lt}
-use Rattle.slot.specs.Slot.{Whole}
 use Rattle.slot.specs.declared.ForeignAnnounceMessage.{ForeignAnnounceMessage}
 use Rattle.history.specs.Rules.{stepMax}
-use Rattle.history.specs.Port.{Site, Port, Frame, offered, bad, announce, turn, hear, idle}
-use Rattle.history.specs.Book.{Book, Call, register, age, share, answerFrom, number, turnsFrom, turns, after, freshBook}
+use Rattle.history.specs.Port.{Site, Port, bad, announce, turn, hear, idle}
+use Rattle.history.specs.Book.{Book, Call, register, age, answerFrom, number, turnsFrom, turns, after, freshBook}
 use Rattle.history.specs.Sound.{soundBook, startable}
 use Rattle.history.specs.Tests.{by}
 use Rattle.history.specs.Kept.{after-sound}
 use Rattle.history.specs.Found.{FoundAt, register-answer, book-found, refused-same}
 use Rattle.book.specs.Below.{length-tab}
 use Rattle.book.specs.Layout.{storeWords, portWords, portAt, portOf, siteOf, bookOf, reads, lawful}
-use Rattle.book.specs.Rules.{soundWords, storeRefusal}
+use Rattle.book.specs.Rules.{soundWords, storeRefusal, checked}
 use Rattle.book.specs.View.{sound-view}
 use Rattle.admission.specs.Refusal.{refusalIn}
 use Rattle.admission.specs.Admit.{registeredIn}
@@ -39,8 +38,8 @@ use Rattle.fresh.specs.View.{begun-length, begun-view, begun-sound}
 use Rattle.foreign_master.specs.declared.Tallies.{Tallies}
 use Rattle.foreign_master.specs.declared.Answer.{Answer}
 use Rattle.foreign_master.specs.declared.Answer.the-variants.{Done, Refused}
-use Rattle.foreign_master.specs.Calls.{qualified, talliesOf, answerTo, answerIn, exitIn, freshAnswer, freshExit, heldOf, frameOf, registerCall, takenIn, registerAnswer, registerExit, ageAnswer, ageExit}
-use Rattle.foreign_master.specs.Steps.{Sound, checked, refused-later, done-both, whole-frame, refused-some, one-less}
+use Rattle.foreign_master.specs.Calls.{talliesOf, answerTo, answerIn, exitIn, freshAnswer, freshExit, heldOf, frameOf, registerCall, takenIn, registerAnswer, registerExit, ageExit}
+use Rattle.foreign_master.specs.Steps.{refused-later, done-both, whole-frame, refused-some, one-less}
 
 -- ---- a refusal changes no word
 
@@ -89,7 +88,7 @@ module _ (s : List ℕ) (checks : storeRefusal s ≡ 0) where
       sound-after c (exitIn s c work) (ap length same) (ap bookOf same ∙ sym (refused-same reads c (bookOf s) ne))
 
   -- where it is done
-  done-after : (c : Call ForeignAnnounceMessage) (work : List ℕ) → number c (turns reads c (bookOf s)) ≡ 0 → length work ≡ length s
+  pub done-after : (c : Call ForeignAnnounceMessage) (work : List ℕ) → number c (turns reads c (bookOf s)) ≡ 0 → length work ≡ length s
       → bookOf work ≡ after reads c (bookOf s) → After s c (exitIn s c work)
   done-after c work e size book = subst (After s c) (done-both s c work checks e .1) (sound-after c work size book)
 
@@ -105,7 +104,7 @@ module _ (s : List ℕ) (checks : storeRefusal s ≡ 0) where
 -- ---- register
 
 -- a frame that was refused is not taken by any port
-bad-number : (S : Site) (n k q : ℕ) (Ps : List (Port ForeignAnnounceMessage)) → answerFrom k q (turnsFrom reads S k (register q (bad n)) Ps) ≡ 0 → n ≡ 0
+pub bad-number : (S : Site) (n k q : ℕ) (Ps : List (Port ForeignAnnounceMessage)) → answerFrom k q (turnsFrom reads S k (register q (bad n)) Ps) ≡ 0 → n ≡ 0
 bad-number S n k q [] e = absurd (omega (arith, e))
 bad-number S n k q (P ∷ Ps) e =
     by
@@ -217,11 +216,3 @@ module _ (s : List ℕ) (S : Site) (ns : List ℕ) where
             book = ap bookOf (sym begins) ∙ begun-view S ns s room q;
             sound = ap storeRefusal (sym begins) ∙ passes (begun S ns s) (omega (arith, begun-length S ns s room)) (begun-sound S ns s room q);
           }
-
--- ---- a candidate
-
--- a list offers a message exactly when it has as many as that
-pub offers : (ms : List ForeignAnnounceMessage) → leb 1 (length (offered ms)) ≡ qualified (length ms)
-offers [] = refl
-offers (x ∷ []) = refl
-offers (x ∷ y ∷ ms) = sym (le-leb 2 (length (x ∷ y ∷ ms)) (omega arith))

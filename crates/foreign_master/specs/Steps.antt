@@ -1,13 +1,12 @@
 -- Each way through the calls, for the proofs of the code.
 -- Assumes nothing.
 use Prim.Native.Nat.{ℕ, zero, suc, _+_, _-_, _≤_, _<_, zero-le}
-use mathlib.Core.Path.{_≡_, refl, sym, ap, ap₂, _∙_, subst}
-use mathlib.Core.Bool.{Bool, true, false, cond, true≢false}
+use mathlib.Core.Path.{_≡_, refl, sym, ap, _∙_, subst}
+use mathlib.Core.Bool.{Bool, true, false, cond}
 use mathlib.Core.List.{List, [], _∷_}
 use native.Mathlib.Omega.{arith}
-use borrow.Author.Tests.{lt-ltb, le-ltb, ltb-false}
+use borrow.Author.Tests.{lt-ltb, le-ltb}
 use lib.Arith.{lt-of-le-ne}
-use lib.Dec.{ltb}
 use lib.ListN.{length, getD}
 use Rattle.wire.specs.Be.{Bytes}
 use Rattle.wire.specs.Refusal.{onZero, on-done, on-refused}
@@ -25,12 +24,12 @@ use Rattle.slot.specs.Blocks.{block}
 use Rattle.slot.specs.Slot.{Whole}
 use Rattle.slot.specs.declared.ForeignAnnounceMessage.{ForeignAnnounceMessage}
 use Rattle.history.specs.Rules.{stepMax}
-use Rattle.history.specs.Port.{Site, Port, Turn, Frame, bad, announce, agePort, hearing}
+use Rattle.history.specs.Port.{Site, Port, Turn, announce, agePort, hearing}
 use Rattle.history.specs.Book.{Call, register, age, number, turnsFrom, turns, total}
 use Rattle.history.specs.Sound.{startable}
 use Rattle.history.specs.Found.{register-answer}
 use Rattle.book.specs.Layout.{storeWords, portWords, portAt, siteOf, portOf, bookOf, reads}
-use Rattle.book.specs.Rules.{soundWords, storeRefusal}
+use Rattle.book.specs.Rules.{checked, storeRefusal}
 use Rattle.admission.specs.Refusal.{refusalIn}
 use Rattle.admission.specs.Admit.{evictedIn, registeredIn}
 use Rattle.admission.specs.StoreView.{number-here, number-6, refusal-view, evictedIn-view, others-view}
@@ -41,22 +40,6 @@ use Rattle.foreign_master.specs.declared.Tallies.{Tallies}
 use Rattle.foreign_master.specs.declared.Answer.{Answer}
 use Rattle.foreign_master.specs.declared.Answer.the-variants.{Done, Refused}
 use Rattle.foreign_master.specs.Calls.{talliesOf, answerTo, answerIn, exitIn, heldOf, frameOf, registerCall, takenIn, registerAnswer, registerExit, ageAnswer, ageExit, freshAnswer, freshExit}
-
--- ---- the check of a store
-
--- passed: it is long enough, and its book is sound
-pub record Sound (s : List ℕ) : Type 0 where
-  pub room : storeWords ≤ length s
-  pub sound : soundWords s ≡ true
-
-pub checked : (s : List ℕ) → storeRefusal s ≡ 0 → Sound s
-unfolding storeRefusal
-checked s e = by (ltb (length s) storeWords) (soundWords s) refl refl e
-  where
-    by : (b c : Bool) → ltb (length s) storeWords ≡ b → soundWords s ≡ c → _≡_ {A = ℕ} (cond b 1 (cond c 0 16)) 0 → Sound s
-    by true c p q e = absurd (omega arith)
-    by false true p q e = record { room = ltb-false (length s) storeWords p; sound = q }
-    by false false p q e = absurd (omega arith)
 
 -- ---- what the first refusal that holds leaves: its number alone, and every word
 
@@ -134,7 +117,7 @@ refused-some frame n e z = by (frameRefusal frame) e
     by zero q = let x : 7 ≡ n = ap number q in omega arith
     by (suc k) q = let x : suc k ≡ n = ap number q in omega arith
 
-tallies-eq : {a a′ b b′ c c′ : ℕ} → a ≡ a′ → b ≡ b′ → c ≡ c′
+pub tallies-eq : {a a′ b b′ c c′ : ℕ} → a ≡ a′ → b ≡ b′ → c ≡ c′
     → _≡_ {A = Tallies} (record { evicted = a; «aged_out» = b; consumed = c }) (record { evicted = a′; «aged_out» = b′; consumed = c′ })
 tallies-eq p q r = λ i. record { evicted = p i; «aged_out» = q i; consumed = r i }
 

@@ -8,7 +8,7 @@ ghost use Rattle.slot.specs.Slot.{Narrow};
 ghost use Rattle.book.specs.Layout.{storeWords};
 ghost use Rattle.book.specs.Rules.{soundWords};
 ghost use Rattle.fresh.specs.Fresh.{siteWith};
-ghost use Rattle.foreign_master.specs.Calls.{qualified, freshAnswer, freshExit, heldOf, registerAnswer, registerExit, ageAnswer, ageExit};
+ghost use Rattle.foreign_master.specs.Calls.{freshAnswer, freshExit, heldOf, registerAnswer, registerExit, ageAnswer, ageExit};
 ghost use Rattle.foreign_master.specs.Steps.{takingAnswer, takingExit};
 use announce::AnnounceMessage;
 use frame::FrameRead;
@@ -25,16 +25,6 @@ pub struct Tallies {
 pub enum Answer {
     Done(Tallies),
     Refused(u8),
-}
-
-// How many messages a master must hold to offer one.
-const FOREIGN_MASTER_THRESHOLD: u64 = 2;
-
-// Whether a master that holds so many messages offers its newest.
-pub fn is_qualified(messages: u64) -> bool
-    ensures { λ r. ⌜ r ≡ qualified messages ⌝ }
-{
-    FOREIGN_MASTER_THRESHOLD <= messages
 }
 
 // Starts afresh for the ports whose intervals are given: 1 where the store is too short, then 14 where the count of ports, an

@@ -1,5 +1,5 @@
 -- `foreign_master::fresh_start` meets its contract. Assumes nothing.
-use mathlib.Core.Path.{_≡_, sym, ap, _∙_}
+use mathlib.Core.Path.{sym, _∙_}
 use borrow.Author.Tests.{not-true, not-false}
 use denote.Ref.{now}
 use Rattle.fresh.specs.Fresh.{siteWith}

@@ -1,13 +1,13 @@
 -- `foreign_master::register_announce_message` meets its contract. Assumes nothing.
-use Prim.Native.Nat.{ℕ, _+_, _<_}
 use native.Mathlib.Omega.{arith}
-use mathlib.Core.Path.{_≡_, sym, ap, _∙_}
+use mathlib.Core.Path.{sym, _∙_}
 use denote.Ref.{now}
 use Rattle.wire.specs.Be.{Bytes}
 use Rattle.frame.specs.Frame.{readFrame}
 use Rattle.slot.specs.Slot.{narrow}
 use Rattle.foreign_master.specs.Calls.{registerCall, takenIn, frameOf, heldOf}
-use Rattle.foreign_master.specs.Steps.{checked, refused-first, no-port, whole-frame, port-below, port-refused, port-taken}
+use Rattle.book.specs.Rules.{checked}
+use Rattle.foreign_master.specs.Steps.{refused-first, no-port, whole-frame, port-below, port-refused, port-taken}
 use borrow.Author.Needs.{needs}
 use Rattle.foreign_master.proofs.register_announce_message.Statement.{statement}
 use Rattle.foreign_master.proofs.register_announce_message.Tie as tie

@@ -1,10 +1,11 @@
 -- `foreign_master::step_age` meets its contract. Assumes nothing.
-use mathlib.Core.Path.{_≡_, sym, ap, _∙_}
+use mathlib.Core.Path.{sym, ap, _∙_}
 use denote.Ref.{now}
 use Rattle.history.specs.Book.{age}
 use Rattle.ageing.specs.Age.{agedStore}
 use Rattle.foreign_master.specs.declared.Answer.the-variants.{Done}
-use Rattle.foreign_master.specs.Steps.{checked, refused-first, gone, step-refused, step-taken}
+use Rattle.book.specs.Rules.{checked}
+use Rattle.foreign_master.specs.Steps.{refused-first, gone, step-refused, step-taken}
 use borrow.Author.Needs.{needs}
 use Rattle.foreign_master.proofs.step_age.Statement.{statement}
 use Rattle.foreign_master.proofs.step_age.Tie as tie
