@@ -1,0 +1,4 @@
+-- The definitions and laws of consumption.
+pub mod Consume
+pub mod Words
+pub mod View
