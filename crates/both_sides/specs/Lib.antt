@@ -1,0 +1,2 @@
+-- The lines that are marked (P).
+pub mod Lines
