@@ -1,0 +1,3 @@
+-- What the calls for a program in C or Rust answer.
+pub mod Decide
+pub mod Laws
