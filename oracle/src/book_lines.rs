@@ -1,17 +1,9 @@
 // The subcommand book-lines: histories of books, the same for the same seed.
 
-use crate::bmc::foreign_master::{ForeignAnnounceMessage, ForeignMaster};
-use crate::book_worlds::{Aim, Sender, World};
-use crate::books::{units, Book};
+use crate::book_history::{History, MAX_MESSAGES};
+use crate::book_worlds::{Aim, Content, Sender, Tale, World};
 use crate::random::Random;
 use std::collections::VecDeque;
-
-/// The most messages of a master, and of a port.
-const MAX_MESSAGES: usize = 8;
-const MAX_HELD: usize = 8 * MAX_MESSAGES;
-
-/// The longest step of age.
-const LONGEST_STEP: u64 = (1 << 62) - 1;
 
 /// How many histories there were, and the lines of the last that are still to come.
 pub struct Histories {
@@ -37,155 +29,130 @@ impl Histories {
     }
 }
 
-/// A history of 20 to 150 lines: a fresh start, frames, steps of age, now and then the whole book,
-/// and that at the end. Some frames come again at once, a few of them so often that they fill a
-/// master's list.
+/// A history: a fresh start, decided at once or not, what its aim asks for, and the whole book at the
+/// end.
 fn history(turn: usize, random: &mut Random) -> Vec<Vec<u8>> {
     let mut history = History::new(turn, random);
-    let length = match history.world.aim {
-        Aim::Full => 130 + random.below(21),
-        _ => 20 + random.below(131),
-    };
-    while history.lines.len() < length - 1 {
-        let line = match random.below(64) {
-            0 => vec![3],
-            1..=15 => history.age_line(random),
-            _ => history.frame_line(random),
-        };
-        let times = match random.below(240) {
-            _ if line[0] != 1 => 1,
-            0 | 1 => MAX_MESSAGES + 1 + random.below(3),
-            2..=9 => 2,
-            _ => 1,
-        };
-        for _ in 0..times.min(length - 1 - history.lines.len()) {
-            history.add(line.clone());
-        }
+    if turn % 3 == 0 {
+        history.decisions(1, random);
+    }
+    match history.world.aim {
+        Aim::Few | Aim::Many => mixed(&mut history, 20 + random.below(131), random),
+        Aim::Full => mixed(&mut history, 150 + random.below(21), random),
+        Aim::Steady => steady(&mut history, 30 + random.below(81), random),
+        Aim::Crowded => crowded(&mut history, random),
     }
     history.add(vec![3]);
     history.lines
 }
 
-fn sender(master: &ForeignMaster) -> Sender {
-    let identity = master.foreign_master_port_identity;
-    let clock = u64::from_be_bytes(identity.clock_identity.0);
-    (clock, identity.port_number)
-}
-
-fn age(message: &ForeignAnnounceMessage) -> u64 {
-    units(message.age)
-}
-
-/// The lines of a history so far, and the book that they come to.
-struct History {
-    world: World,
-    book: Book,
-    lines: Vec<Vec<u8>>,
-}
-
-impl History {
-    fn new(turn: usize, random: &mut Random) -> Self {
-        let mut history = History {
-            world: World::new(turn, random),
-            book: Book::new(),
-            lines: Vec::new(),
+/// Frames, steps of age, decisions, and now and then the whole book, up to so many lines. There are more
+/// decisions where more is offered, and few while a port is to be filled. Some frames and decisions
+/// come again at once, a few frames so often that they fill a master's list, and some frames at all
+/// ports.
+fn mixed(history: &mut History, length: usize, random: &mut Random) {
+    while history.lines.len() < length {
+        let decisions = match history.offered() {
+            _ if history.is_filling => 1,
+            0 => 6,
+            1 => 20,
+            _ => 36,
         };
-        history.add(history.world.start());
-        history
-    }
-
-    fn add(&mut self, line: Vec<u8>) {
-        self.book.answer(&line).expect("the line has a shape");
-        self.lines.push(line);
-    }
-
-    /// Whether the first port is still to be filled.
-    fn is_filling(&self) -> bool {
-        let masters = self.book.masters(0).iter();
-        let held: usize = masters.map(|master| master.announce_messages.len()).sum();
-        self.world.aim == Aim::Full && held < MAX_HELD
-    }
-
-    /// One who sends to a port: one of whom there is little, if the port is to be filled.
-    fn sender(&self, port: usize, random: &mut Random) -> Sender {
-        let masters = self.book.masters(port).iter();
-        let little = masters.min_by_key(|master| master.announce_messages.len());
-        match little {
-            Some(master) if self.is_filling() && random.below(2) == 0 => sender(master),
-            _ => self.world.sender(port, random),
-        }
-    }
-
-    /// A frame at a port.
-    fn frame_line(&self, random: &mut Random) -> Vec<u8> {
-        let port = self.world.port(random);
-        let from = self.sender(port, random);
-        let sequence = self.sequence(port, from, random);
-        let steps = match random.below(if self.is_filling() { 128 } else { 32 }) {
-            0 | 1 => 254,
-            2 | 3 => 255,
-            4 => random.of(&[256, 65535]),
-            5 => random.next() as u16,
-            _ => random.below(4) as u16,
+        let line = match random.below(64) {
+            0 => vec![3],
+            1..=10 => history.age_line(random),
+            place if place - 10 <= decisions => history.decision_line(random),
+            _ => history.frame_line(random),
         };
-        self.world.frame_line(port, from, sequence, steps, random)
-    }
-
-    /// A sequence: most often the next one, or some way from the last one held, on both sides of
-    /// what is news.
-    fn sequence(&self, port: usize, from: Sender, random: &mut Random) -> u16 {
-        let any = random.next() as u16;
-        let mut masters = self.book.masters(port).iter();
-        let master = masters.find(|master| sender(master) == from);
-        let Some(last) = master.and_then(|master| master.announce_messages.last()) else {
-            return random.of(&[any, 0, 65534, 65535]);
-        };
-        let difference = match random.below(if self.is_filling() { 128 } else { 32 }) {
-            0..=2 => 0,
-            3 | 4 => 32766,
-            5 | 6 => 32767,
-            7 | 8 => 65535,
-            9 | 10 => any,
-            11 | 12 => any % 16,
+        let times = match (line[0], random.below(240)) {
+            (1, 0 | 1) => MAX_MESSAGES + 1 + random.below(3),
+            (1, 2..=9) => 2,
+            (4, 0..=59) => 2 + random.below(3),
             _ => 1,
         };
-        last.header.sequence_id.wrapping_add(difference)
+        for _ in 0..times.min(length - history.lines.len()) {
+            history.add(line.clone());
+        }
+        if line[0] == 1 && random.below(16) == 0 {
+            history.everywhere();
+        }
     }
+}
 
-    /// A step of age: most often one that brings a message to four intervals or just below, or a
-    /// part of an interval; small ones while a port is to be filled.
-    fn age_line(&self, random: &mut Random) -> Vec<u8> {
-        let interval = random.of(&self.world.intervals);
-        let any = random.next();
-        let step = match random.below(16) {
-            _ if self.is_filling() => any % interval / 64,
-            0 if any % 2 == 0 => random.of(&[LONGEST_STEP, any >> 2]),
-            0 | 1 => random.below(5) as u64,
-            2..=6 => self.edge(random),
-            _ => any % interval / random.of(&[1, 4, 16, 16]),
-        };
-        [&[2], &step.to_be_bytes()[..]].concat()
-    }
+/// One who sends at each interval: at which port, what it tells, and for how many rounds it is silent.
+struct Master {
+    port: usize,
+    from: Sender,
+    content: Content,
+    silent: usize,
+}
 
-    /// The step that brings a message to four intervals of its port, or to one unit less: any of
-    /// them, or the newest of the master between others that was silent longest, so that it goes.
-    /// 0 where none is held.
-    fn edge(&self, random: &mut Random) -> u64 {
-        let port = self.world.port(random);
-        let masters = self.book.masters(port);
-        let between = match masters {
-            [_, between @ .., _] if !between.is_empty() => between,
-            _ => masters,
-        };
-        let newest = |master: &ForeignMaster| master.announce_messages.last().map(age);
-        let silent = between.iter().filter_map(newest).max();
-        let all = masters.iter().flat_map(|master| &*master.announce_messages);
-        let any: Vec<u64> = all.map(age).collect();
-        let age = match random.below(3) {
-            0 | 1 => silent,
-            _ => any.get(random.below(any.len().max(1))).copied(),
-        };
-        let limit = 4 * self.world.intervals[port];
-        age.map_or(0, |age| limit - age - random.below(2) as u64)
+/// Two to four masters at each port, or one or two where ports are many.
+fn masters(world: &World, random: &mut Random) -> Vec<Master> {
+    let count = world.intervals.len();
+    let (least, most) = if count > 3 { (1, 2) } else { (2, 4) };
+    let ports: Vec<usize> = (0..count)
+        .flat_map(|port| vec![port; least + random.below(most - least + 1)])
+        .collect();
+    let contents = world.contents(&ports, random);
+    let masters = ports.into_iter().zip(contents);
+    masters
+        .map(|(port, content)| Master {
+            port,
+            from: random.of(&world.senders),
+            content,
+            silent: 0,
+        })
+        .collect()
+}
+
+/// Rounds of masters that send at each interval, of steps of age and of decisions, up to so many lines
+/// or a few more.
+fn steady(history: &mut History, length: usize, random: &mut Random) {
+    let mut masters = masters(&history.world, random);
+    while history.lines.len() < length {
+        for master in &mut masters {
+            if sends(master, &history.world, random) {
+                history.steady_frame(master.port, master.from, master.content, random);
+                let is_alike = history.world.tale == Tale::Alike;
+                if random.below(if is_alike { 2 } else { 16 }) == 0 {
+                    history.everywhere();
+                }
+                history.decisions(random.below(12) / 11, random);
+            }
+        }
+        history.decisions(random.of(&[1, 1, 1, 1, 1, 2, 3]), random);
+        history.interval(random);
+        history.decisions(random.of(&[0, 0, 1]), random);
     }
+}
+
+/// Whether a master sends in this round. Now and then one falls silent, often for so long that it is
+/// forgotten, or tells something new.
+fn sends(master: &mut Master, world: &World, random: &mut Random) -> bool {
+    if master.silent > 0 {
+        master.silent -= 1;
+        return false;
+    }
+    match random.below(40) {
+        0..=2 => master.silent = random.below(8),
+        3 => master.content = world.content(world.steps(random), random),
+        _ => {}
+    }
+    master.silent == 0
+}
+
+/// Eight messages of eight masters at each of eight ports, decided until nothing is consumed; then as
+/// it comes.
+fn crowded(history: &mut History, random: &mut Random) {
+    for _ in 0..MAX_MESSAGES {
+        for port in 0..history.world.intervals.len() {
+            for place in 0..history.world.senders.len() {
+                history.plain_frame(port, history.world.senders[place], random);
+            }
+        }
+        history.short_step(random);
+    }
+    history.decisions(MAX_MESSAGES + 1, random);
+    mixed(history, history.lines.len() + 60, random);
 }

@@ -1,13 +1,15 @@
-// The subcommand books: what the crate holds of the announces of several ports, from one fresh start to the next.
+// The subcommand books: what the crate holds of the announces of several ports and decides by them, from one fresh start to the next.
 
 use crate::bmc::acceptable_master::AcceptableMasterList;
-use crate::bmc::bmca::Bmca;
+use crate::bmc::bmca::{BestAnnounceMessage, Bmca};
 use crate::bmc::foreign_master::ForeignMaster;
 use crate::datastructures::common::{ClockIdentity, PortIdentity, TimeInterval};
+use crate::datastructures::datasets::InternalDefaultDS;
 use crate::datastructures::messages::{AnnounceMessage, MessageBody};
+use crate::decisions::{best_of, listens, recommended, told, NONE};
 use crate::lines::{hex, sign};
 use crate::messages::read;
-use crate::records::{message_bytes, Rest};
+use crate::records::{message_bytes, own_bytes, Rest};
 use crate::time::Duration;
 
 /// The most ports, and the most clocks of a list.
@@ -54,6 +56,12 @@ impl Book {
                 rest.0.is_empty().then(|| self.age(step))
             }
             3 => rest.0.is_empty().then(|| self.told(in_full)),
+            4 => {
+                let identity = self.0.first()?.own_port_identity;
+                let own = rest.own_of(identity.clock_identity)?;
+                let listening = rest.byte()?;
+                rest.0.is_empty().then(|| self.decide(&own, listening))
+            }
             _ => return None,
         }
         .filter(|_| !self.0.is_empty())
@@ -112,6 +120,49 @@ impl Book {
         format!("00 {aged_out:x} {}", self.told(in_short))
     }
 
+    /// The candidates of all ports: port 1 first, within a port from the last master to the first, each
+    /// master with two messages or more its newest.
+    fn candidates(&self) -> Vec<BestAnnounceMessage> {
+        let ports = self.0.iter().enumerate();
+        let offered = ports.flat_map(|(port, receiver)| {
+            let masters = self.masters(port).iter().rev();
+            let offering = masters.filter(|master| master.announce_messages.len() > 1);
+            let newest = offering.filter_map(|master| master.announce_messages.last());
+            newest.map(|message| BestAnnounceMessage {
+                header: message.header,
+                message: message.message,
+                age: message.age,
+                identity: receiver.own_port_identity,
+            })
+        });
+        offered.collect()
+    }
+
+    /// A decision: how many candidates there are and the place of the one chosen at once among all, how
+    /// many messages it consumed, and for each port its state and what that carries.
+    /// Each port takes its best message first, as the crate's instance has it.
+    fn decide(&mut self, own: &InternalDefaultDS, listening: u8) -> String {
+        let at_once = chosen_at_once(&self.candidates());
+        let held = self.held();
+        let ports = self.0.iter_mut();
+        let erbests: Vec<_> = ports
+            .map(|port| port.take_best_port_announce_message())
+            .collect();
+        let consumed = held - self.held();
+        let found: Vec<_> = erbests.iter().copied().flatten().collect();
+        let ebest = best_of(&found);
+        let states = erbests.iter().zip(1..).map(|(erbest, number)| {
+            told(
+                recommended(own, listens(listening, number), ebest, *erbest),
+                |own| hex(&own_bytes(own)),
+                in_short,
+            )
+        });
+        let states = states.collect::<Vec<_>>().join(" ");
+        let told = self.told(in_short);
+        format!("00 {at_once} {consumed:x} {states} {told}")
+    }
+
     fn all_masters(&self) -> impl Iterator<Item = &ForeignMaster> {
         (0..self.0.len()).flat_map(|port| self.masters(port))
     }
@@ -148,6 +199,16 @@ impl Book {
         }
         tokens.join(" ")
     }
+}
+
+/// How many candidates there are, and the place of the one that the crate's choice over all of them
+/// gives. The records of two candidates differ at least in the sender or in the receiver; were they
+/// equal, the last of them would be the chosen one, since the crate's max_by keeps the last.
+fn chosen_at_once(candidates: &[BestAnnounceMessage]) -> String {
+    let best = best_of(candidates);
+    let place = best.and_then(|best| candidates.iter().rposition(|other| *other == best));
+    let place = place.map_or(NONE.to_string(), |place| format!("{place:x}"));
+    format!("{:x} {place}", candidates.len())
 }
 
 /// A length of time in units of 2^-16 ns.

@@ -158,7 +158,7 @@ fn tie(turn: usize, world: &World, random: &mut Random) -> Vec<Candidate> {
 
 /// Three candidates that beat each other in a circle, in each order: a of one grandmaster with the
 /// least priority 1, b of another, c of the first with the greatest and with fewer steps by 2 or 3.
-fn circle(turn: usize, world: &World, random: &mut Random) -> Vec<Candidate> {
+pub fn circle(turn: usize, world: &World, random: &mut Random) -> Vec<Candidate> {
     let mut circle = [0; 3].map(|_| world.anywhere(random));
     let least = random.below(250) as u64;
     let steps = random.below(250) as u64;

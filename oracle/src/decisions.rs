@@ -12,7 +12,7 @@ use crate::records::{message_bytes, own_bytes, Rest};
 const PORTS: u16 = 8;
 
 /// What stands for none.
-const NONE: &str = "-";
+pub const NONE: &str = "-";
 
 /// The answer to one line, if it has the shape of a question.
 pub fn answer(line: &[u8]) -> Option<String> {
@@ -32,7 +32,8 @@ fn verdict(ordering: DatasetOrdering) -> String {
     format!("{:02x}", ordering as u8)
 }
 
-fn best_of(candidates: &[BestAnnounceMessage]) -> Option<BestAnnounceMessage> {
+/// The best candidate.
+pub fn best_of(candidates: &[BestAnnounceMessage]) -> Option<BestAnnounceMessage> {
     Bmca::<()>::find_best_announce_message(candidates.iter().copied())
 }
 
@@ -63,15 +64,19 @@ fn decision(
     let mut tokens = vec![place(&best_of(candidates)), place(&ebest)];
     for number in 1..=PORTS {
         let erbest = erbests.iter().copied().find(|best| port(best) == number);
-        let listens = listening >> (number - 1) & 1 == 1;
         tokens.push(place(&erbest));
         tokens.push(told(
-            recommended(own, listens, ebest, erbest),
+            recommended(own, listens(listening, number), ebest, erbest),
             |own| hex(&[own.priority_1, own.clock_quality.clock_class]),
             |message| format!("{:04x}", message.header.sequence_id),
         ));
     }
     Some(tokens.join(" "))
+}
+
+/// Whether a port, which is counted from 1, listens.
+pub fn listens(listening: u8, port: u16) -> bool {
+    listening >> (port - 1) & 1 == 1
 }
 
 /// The recommended state of one port, with all that it carries.
@@ -88,7 +93,7 @@ fn state(
     )
 }
 
-fn recommended(
+pub fn recommended(
     own: &InternalDefaultDS,
     listens: bool,
     ebest: Option<BestAnnounceMessage>,
@@ -103,7 +108,7 @@ fn recommended(
 }
 
 /// The number of a state, 0 where the port stays as it is, and what it carries in these words.
-fn told(
+pub fn told(
     state: Option<RecommendedState>,
     own: fn(&InternalDefaultDS) -> String,
     message: fn(&AnnounceMessage) -> String,

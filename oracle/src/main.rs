@@ -2,6 +2,7 @@
 #![allow(dead_code, unused)]
 
 mod bmc;
+mod book_history;
 mod book_lines;
 mod book_worlds;
 mod books;
@@ -33,7 +34,7 @@ usage: oracle codec                      answer frames: header and announce
        oracle messages                   answer frames: messages with their TLVs
        oracle kinds                      write what each number of a TLV type is
        oracle decisions                  answer comparisons, choices and decisions
-       oracle books                      answer what ports hear and hold
+       oracle books                      answer what ports hear, hold and decide
        oracle frames SEED COUNT          write COUNT frames
        oracle tlv-frames SEED COUNT      write COUNT frames with TLVs
        oracle decision-lines SEED COUNT  write COUNT lines for decisions
@@ -87,6 +88,7 @@ books: the first byte of a line says what is done. The first line is a 00.
   01 PORT FRAME                              a frame at a port
   02 STEP                                    a step of age at all ports
   03                                         nothing: the book is told in full
+  04 PROFILE LISTENING                       a decision; both as for decisions
   CLOCK     our clock's identity (8 bytes)
   RULE      00 any sender is acceptable, 01 the clocks of the list are
   LENGTH    how many LISTED (8 bytes each) there are: 00 to 10
@@ -97,12 +99,17 @@ books: the first byte of a line says what is done. The first line is a 00.
 Intervals, steps and ages are in units of 2^-16 ns. 00 is answered with 00 and
 the book; 02 with 00, how many messages aged out and the book; 03 with the book
 alone. 01 is answered as messages tells a refusal, or with 00, 1 if the crate
-says true, how many messages were evicted, and the book.
+says true, how many messages were evicted, and the book. 04 is answered with 00,
+how many candidates there were, the place of the best among all of them at once
+(from 0 on, or - for none; port 1 first, within a port from the last master to
+the first), how many messages were consumed, for each port the number of its
+state and what that carries (OWN, a message's content as the book has it, or -
+for none), and the book. Bits of LISTENING above the count are ignored.
 The book has a | for each port and then its masters: clock (16 digits), a dot
 and port (4 digits), followed by the master's messages: sequence (4 digits), age
 and content with colons between. The content is the hash FNV-1a (8 digits) of
 the 64 bytes of the message, written again over zeros; for 03 it is those bytes.
-Ages and counts have no leading zeros.
+Ages, counts and places have no leading zeros.
 
 frames, tlv-frames, decision-lines and book-lines write the same for the same
 SEED. SEED and COUNT are decimal numbers below 2^64.

@@ -87,8 +87,14 @@ impl Rest<'_> {
 
     /// Our own data: identity, priority 1, quality, priority 2.
     pub fn own(&mut self) -> Option<InternalDefaultDS> {
+        let identity = self.identity()?;
+        self.own_of(identity)
+    }
+
+    /// Our own data but for the identity, which is known.
+    pub fn own_of(&mut self, clock_identity: ClockIdentity) -> Option<InternalDefaultDS> {
         Some(InternalDefaultDS {
-            clock_identity: self.identity()?,
+            clock_identity,
             number_ports: 0,
             priority_1: self.byte()?,
             clock_quality: self.quality()?,

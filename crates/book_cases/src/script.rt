@@ -130,7 +130,7 @@ fn several(store: &mut [u64], row: &[u8]) -> bool {
 // Whether master i of a port is that of a letter, and holds as many messages as a digit says; of two or more it offers one, of one none.
 fn holds_so_many(store: &[u64], port: u64, i: u64, letter: u8, digit: u8) -> bool {
     let messages = word(store, words::master_at(port, i) + 3);
-    let offers = foreign_master::is_qualified(messages);
+    let offers = offers::is_qualified(messages);
     calls::is_sender(store, port, i, letter)
         & (messages == digit as u64 % 16)
         & (offers == (b'1' < digit))

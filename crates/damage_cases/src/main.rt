@@ -1,5 +1,6 @@
 // Runs the calls on stores that are too short, and on full books of which one word is changed, and writes for each group how many cases it
 // has and how many are wrong: 1 comes first, and 16 is right exactly where a book is unsound.
+mod decisions;
 mod short;
 
 use book_vectors::calls;
@@ -51,13 +52,25 @@ fn right(answer: Answer, sound: bool, store: &[u64], before: &[u64]) -> bool {
     calls::is(answer, 16, 0, 0) & words::same(store, before)
 }
 
-// A good frame, and a step of age.
-fn both(store: &mut [u64], before: &[u64], sound: bool) -> bool {
+// A decision, and the first candidate.
+fn decided(store: &mut [u64], before: &[u64], sound: bool) -> bool {
+    let offered = decisions::offered(store);
+    let number = decisions::decide(store).number;
+    if sound {
+        return (offered == 0) & (number == 0);
+    }
+    (offered == 16) & (number == 16) & words::same(store, before)
+}
+
+// A good frame, a step of age, and these.
+fn every_call(store: &mut [u64], before: &[u64], sound: bool) -> bool {
     let first = calls::register(store, 1, b'A', b'g', 5, 0);
     let registers = right(first, sound, store, before);
     words::copy(before, store);
     let second = foreign_master::step_age(store, 1);
-    registers & right(second, sound, store, before)
+    let ages = right(second, sound, store, before);
+    words::copy(before, store);
+    registers & ages & decided(store, before, sound)
 }
 
 // The tallies of the books that are still sound, and of those that are not.
@@ -87,7 +100,7 @@ fn one(t: Tallies, store: &mut [u64], book: &mut [u64], at: usize, change: usize
     words::put(book, at, changed(was, change));
     words::copy(book, store);
     let sound = rules::sound(book);
-    let answered = both(store, book, sound);
+    let answered = every_call(store, book, sound);
     words::put(book, at, was);
     counted(t, sound, answered)
 }

@@ -1,10 +1,13 @@
-// Answers each line of the input, a fresh start, a frame, a step of age or the wish to see the book, in hexadecimal digits: the lines of the
-// oracle's subcommand books.
+// Answers each line of the input, a fresh start, a frame, a step of age, the wish to see the book or a decision, in hexadecimal digits: the
+// lines of the oracle's subcommand books.
+mod at_once;
+mod decided;
 mod told;
 
 ghost use mathlib.Core.Path.{_≡_};
 ghost use Prim.Native.Nat.{_<_, _≤_};
 ghost use lib.ListN.{length};
+use announce::ClockQuality;
 use book::STORE_WORDS;
 use foreign_master::Answer;
 use foreign_master::Tallies;
@@ -19,6 +22,9 @@ const MAX_WORDS: usize = 256;
 
 // Our clock, the rule and the length of its list, with which a fresh start begins.
 const START_SIZE: usize = 10;
+
+// Priority 1, quality and priority 2 of our clock, and the ports that listen.
+const DECISION_SIZE: usize = 7;
 
 // A number of eight bytes in a part of a line, 0 where it has none.
 fn word_at(s: &[u8], i: usize) -> u64
@@ -103,22 +109,12 @@ fn answer_start(store: &mut [u64], s: &[u8]) -> bool
     true
 }
 
-// Writes what the line of an answer has no room for, and is always none.
-fn print_others(one: u64, other: u64) {
-    if one != 0 {
-        replay::print(one, 1);
-    }
-    if other != 0 {
-        replay::print(other, 1);
-    }
-}
-
 // Writes that the crate's answer to a frame is yes, or no, and how many messages were put out.
 fn print_heard(yes: bool, t: Tallies) {
     replay::print_first(0);
     replay::print_flag(yes);
     replay::print(t.evicted, 1);
-    print_others(t.aged_out, t.consumed);
+    told::print_others(t.aged_out, t.consumed);
 }
 
 fn nothing() -> Tallies {
@@ -178,7 +174,7 @@ fn print_aged(answer: Answer) -> bool {
         Answer::Done(t) => {
             replay::print_first(0);
             replay::print(t.aged_out, 1);
-            print_others(t.evicted, t.consumed);
+            told::print_others(t.evicted, t.consumed);
             true
         }
         Answer::Refused(n) => {
@@ -213,6 +209,26 @@ fn answer_wish(store: &[u64], s: &[u8]) -> bool
     true
 }
 
+// A decision.
+fn answer_decision(store: &mut [u64], s: &[u8]) -> bool
+    requires { ⌜ 6580 ≤ length (now store) ⌝ }
+{
+    if s.len() != DECISION_SIZE {
+        return false;
+    }
+    let quality = ClockQuality {
+        clock_class: s[1],
+        clock_accuracy: s[2],
+        offset_scaled_log_variance: wire::u16_at(s, 3),
+    };
+    let choice = at_once::choose(store);
+    let decision = bmca::decide(store, s[0], quality, s[5], s[6]);
+    if decided::print_decision(choice, decision) {
+        told::print_book(store, false);
+    }
+    true
+}
+
 // Answers a line by what its first byte asks.
 fn answer_line(store: &mut [u64], line: &[u8]) -> bool
     requires { ⌜ 6580 ≤ length (now store) ⌝ }
@@ -227,6 +243,7 @@ fn answer_line(store: &mut [u64], line: &[u8]) -> bool
         1 => answer_frame(store, rest),
         2 => answer_step(store, rest),
         3 => answer_wish(store, rest),
+        4 => answer_decision(store, rest),
         _ => false,
     }
 }

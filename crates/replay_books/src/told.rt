@@ -12,12 +12,27 @@ use libc::STDOUT_FILENO;
 use slot::SLOT_WORDS;
 
 // Writes digits with no space before them.
-fn print_on(x: u64, digits: usize) {
+pub fn print_on(x: u64, digits: usize) {
     io::print_hex(STDOUT_FILENO, x, digits);
 }
 
+// Writes a space and what stands for none.
+pub fn print_none() {
+    io::write_all(STDOUT_FILENO, b" -");
+}
+
+// Writes what the line of an answer has no room for, and is always none.
+pub fn print_others(one: u64, other: u64) {
+    if one != 0 {
+        replay::print(one, 1);
+    }
+    if other != 0 {
+        replay::print(other, 1);
+    }
+}
+
 // A count, or the most that there is room for.
-fn within(count: u64, most: u64) -> usize
+pub fn within(count: u64, most: u64) -> usize
     ensures { λ r. ⌜ r ≤ most ⌝ }
 {
     if most < count {
@@ -54,7 +69,7 @@ fn print_bytes(s: &[u8]) {
 
 // Writes the content of a message, written again over zeros: its bytes, or their hash. A refusal, which a message held has none of,
 // is shown.
-fn print_content(message: AnnounceMessage, full: bool) {
+pub fn print_content(message: AnnounceMessage, full: bool) {
     let mut target = [0u8; TLV_START];
     let tlvs = [0u8; 1];
     let status = frame::write_frame(message, &tlvs[..0], &mut target);

@@ -6,10 +6,10 @@ use Rattle.damage_cases.proofs.short_stores.Statement.{statement}
 use Rattle.damage_cases.proofs.short_stores.Tie as tie
 
 abbrev Inv-loop : tie.InvT-loop
-Inv-loop t₀ n₀ t3 t n = n ≤ 120
+Inv-loop t₀ n₀ t3 t n = n ≤ 160
 
 abbrev μ-loop : tie.MeasureT-loop
-μ-loop t₀ n₀ t3 t n = 120 - n
+μ-loop t₀ n₀ t3 t n = 160 - n
 
 pub short-stores-spec : {M : Type 1} → statement M
 short-stores-spec =
