@@ -6,7 +6,7 @@ ghost use mathlib.Core.List.{_++_, map};
 ghost use Prim.Native.Nat.{_≤_};
 ghost use lib.ListN.{length, take, drop, getD};
 ghost use Rattle.book.specs.Layout.{portWords, storeWords};
-ghost use Rattle.book.specs.Rules.{soundWords};
+ghost use Rattle.book.specs.Rules.{soundWords, storeRefusal};
 ghost use Rattle.decision.specs.State.{optionOf};
 ghost use Rattle.history.specs.Rules.{portsMax, mastersMax};
 ghost use Rattle.bmca.specs.Decide.{
@@ -137,21 +137,21 @@ fn refused(n: u8) -> Decision
     }
 }
 
-// Decides for all ports by our priorities and quality and a byte, bit k - 1 set if port k listens, bits above the count ignored: 1 where
-// the store is too short, then 16 where its book is unsound.
-pub fn decide(
+// Decides for all ports, on a store whose check has answered.
+pub fn decide_checked(
     store: &mut [u64],
+    checked: u8,
     priority_1: u8,
     quality: ClockQuality,
     priority_2: u8,
     listening: u8,
 ) -> Decision
+    requires { ⌜ checked ≡ storeRefusal (now store) ⌝ }
     ensures { λ r. ⌜ r ≡ decideAnswer (now (store .entry)) priority_1 quality priority_2 listening ⌝ }
     ensures { λ _. ⌜ now (store .exit) ≡ decideExit (now (store .entry)) ⌝ }
 {
-    let n = book::check(store);
-    if n != 0 {
-        return refused(n);
+    if checked != 0 {
+        return refused(checked);
     }
     let ports = store[0] as usize;
     let own = InternalDefaultDS {
@@ -169,4 +169,20 @@ pub fn decide(
         answers: of_ports(answers, ports),
         tallies: consuming(consumed),
     }
+}
+
+// Decides for all ports by our priorities and quality and a byte, bit k - 1 set if port k listens, bits above the count ignored: 1 where
+// the store is too short, then 16 where its book is unsound.
+pub fn decide(
+    store: &mut [u64],
+    priority_1: u8,
+    quality: ClockQuality,
+    priority_2: u8,
+    listening: u8,
+) -> Decision
+    ensures { λ r. ⌜ r ≡ decideAnswer (now (store .entry)) priority_1 quality priority_2 listening ⌝ }
+    ensures { λ _. ⌜ now (store .exit) ≡ decideExit (now (store .entry)) ⌝ }
+{
+    let checked = book::check(store);
+    decide_checked(store, checked, priority_1, quality, priority_2, listening)
 }

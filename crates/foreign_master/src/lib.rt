@@ -6,7 +6,7 @@ ghost use Prim.Native.Nat.{_<_, _≤_};
 ghost use lib.ListN.{length, getD};
 ghost use Rattle.slot.specs.Slot.{Narrow};
 ghost use Rattle.book.specs.Layout.{storeWords};
-ghost use Rattle.book.specs.Rules.{soundWords};
+ghost use Rattle.book.specs.Rules.{soundWords, storeRefusal};
 ghost use Rattle.fresh.specs.Fresh.{siteWith};
 ghost use Rattle.foreign_master.specs.Calls.{freshAnswer, freshExit, heldOf, registerAnswer, registerExit, ageAnswer, ageExit};
 ghost use Rattle.foreign_master.specs.Steps.{takingAnswer, takingExit};
@@ -66,14 +66,14 @@ fn register_at(store: &mut [u64], q: usize, announce: AnnounceMessage) -> Answer
     })
 }
 
-// Registers the frame that a port received: 1, 16, then 6 where there is no such port, then the frame's refusals, 7, 8, 9, 10, 11, 12.
-pub fn register_announce_message(store: &mut [u64], port: u16, frame: &[u8]) -> Answer
+// Registers the frame that a port received, on a store whose check has answered.
+pub fn register_checked(store: &mut [u64], checked: u8, port: u16, frame: &[u8]) -> Answer
+    requires { ⌜ checked ≡ storeRefusal (now store) ⌝ }
     ensures { λ r. ⌜ r ≡ registerAnswer (now (store .entry)) port (now (frame .entry)) ⌝ }
     ensures { λ _. ⌜ now (store .exit) ≡ registerExit (now (store .entry)) port (now (frame .entry)) ⌝ }
 {
-    let n = book::check(store);
-    if n != 0 {
-        return Answer::Refused(n);
+    if checked != 0 {
+        return Answer::Refused(checked);
     }
     if port == 0 {
         return Answer::Refused(6);
@@ -87,13 +87,22 @@ pub fn register_announce_message(store: &mut [u64], port: u16, frame: &[u8]) -> 
     }
 }
 
-// Makes every message older by a step, and drops those that are too old: 1, 16, then 13 for a step of 2^62 or more.
-pub fn step_age(store: &mut [u64], step: u64) -> Answer
+// Registers the frame that a port received: 1, 16, then 6 where there is no such port, then the frame's refusals, 7, 8, 9, 10, 11, 12.
+pub fn register_announce_message(store: &mut [u64], port: u16, frame: &[u8]) -> Answer
+    ensures { λ r. ⌜ r ≡ registerAnswer (now (store .entry)) port (now (frame .entry)) ⌝ }
+    ensures { λ _. ⌜ now (store .exit) ≡ registerExit (now (store .entry)) port (now (frame .entry)) ⌝ }
+{
+    let checked = book::check(store);
+    register_checked(store, checked, port, frame)
+}
+
+// Makes every message older by a step, on a store whose check has answered.
+pub fn age_checked(store: &mut [u64], checked: u8, step: u64) -> Answer
+    requires { ⌜ checked ≡ storeRefusal (now store) ⌝ }
     ensures { λ r. ⌜ (r ≡ ageAnswer (now (store .entry)) step) × (now (store .exit) ≡ ageExit (now (store .entry)) step) ⌝ }
 {
-    let n = book::check(store);
-    if n != 0 {
-        return Answer::Refused(n);
+    if checked != 0 {
+        return Answer::Refused(checked);
     }
     if 0x4000_0000_0000_0000 <= step {
         return Answer::Refused(13);
@@ -104,4 +113,12 @@ pub fn step_age(store: &mut [u64], step: u64) -> Answer
         aged_out,
         consumed: 0,
     })
+}
+
+// Makes every message older by a step, and drops those that are too old: 1, 16, then 13 for a step of 2^62 or more.
+pub fn step_age(store: &mut [u64], step: u64) -> Answer
+    ensures { λ r. ⌜ (r ≡ ageAnswer (now (store .entry)) step) × (now (store .exit) ≡ ageExit (now (store .entry)) step) ⌝ }
+{
+    let checked = book::check(store);
+    age_checked(store, checked, step)
 }

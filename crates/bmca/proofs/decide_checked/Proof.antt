@@ -1,4 +1,4 @@
--- `bmca::decide` meets its contract. Assumes nothing.
+-- `bmca::decide_checked` meets its contract. Assumes nothing.
 use mathlib.Core.Path.{_≡_, sym, ap, _∙_}
 use native.Mathlib.Omega.{arith}
 use denote.Ref.{now}
@@ -10,38 +10,38 @@ use Rattle.book.specs.Rules.{held, checked, storeRefusal}
 use Rattle.bmca.specs.Decide.{consumingOf, erbestsOf}
 use Rattle.bmca.specs.Laws.{refused, done}
 use borrow.Author.Needs.{needs}
-use Rattle.bmca.proofs.decide.Statement.{statement}
-use Rattle.bmca.proofs.decide.Tie as tie
+use Rattle.bmca.proofs.decide_checked.Statement.{statement}
+use Rattle.bmca.proofs.decide_checked.Tie as tie
 
 returns : tie.Need-returns
 returns c =
-    let a = c .before .before .before .before .before .args in
-    let no = refused (now (a .store)) (a .priority-1) (a .quality) (a .priority-2) (a .listening) (c .before .before .check .result) (c .before .before .check .ensures) (c .before .if1 .taken) in
+    let a = c .before .before .before .args in
+    let no = refused (now (a .store)) (a .priority-1) (a .quality) (a .priority-2) (a .listening) (c .before .before .before .args .checked) (c .before .before .before .pre) (c .before .if1 .taken) in
     (c .refused .ensures ∙ no .0, no .1)
 
 slice-read-ports : tie.Need-slice-read-ports
-slice-read-ports c = omega (arith, checked (now (c .before .before .before .before .before .args .store)) (sym (c .before .before .check .ensures) ∙ c .before .if1 .left) .room)
+slice-read-ports c = omega (arith, checked (now (c .before .before .before .args .store)) (sym (c .before .before .before .pre) ∙ c .before .if1 .left) .room)
 
 slice-read-consuming : tie.Need-slice-read-consuming
-slice-read-consuming c = omega (arith, checked (now (c .before .before .before .before .before .before .args .store)) (sym (c .before .before .before .check .ensures) ∙ c .before .before .if1 .left) .room)
+slice-read-consuming c = omega (arith, checked (now (c .before .before .before .before .args .store)) (sym (c .before .before .before .before .pre) ∙ c .before .before .if1 .left) .room)
 
 decide-ports-requires : tie.Need-decide-ports-requires
 decide-ports-requires c κs =
-    let s = checked (now (c .before .before .before .before .before .before .before .before .args .store)) (sym (c .before .before .before .before .before .check .ensures) ∙ c .before .before .before .before .if1 .left) in
+    let s = checked (now (c .before .before .before .before .before .before .args .store)) (sym (c .before .before .before .before .before .before .pre) ∙ c .before .before .before .before .if1 .left) in
     (s .room, s .sound)
 
 of-ports-requires : tie.Need-of-ports-requires
 of-ports-requires c κs =
-    let s = now (c .before .before .before .before .before .before .before .before .before .before .before .before .args .store) in
-    held s (checked s (sym (c .before .before .before .before .before .before .before .before .before .check .ensures) ∙ c .before .before .before .before .before .before .before .before .if1 .left) .sound) .ports
+    let s = now (c .before .before .before .before .before .before .before .before .before .before .args .store) in
+    held s (checked s (sym (c .before .before .before .before .before .before .before .before .before .before .pre) ∙ c .before .before .before .before .before .before .before .before .if1 .left) .sound) .ports
 
 returns-2 : tie.Need-returns-2
 unfolding bookOf siteOf
 returns-2 c =
-    let a = c .before .before .before .before .before .before .before .before .before .before .before .before .before .before .args in
+    let a = c .before .before .before .before .before .before .before .before .before .before .before .before .args in
     let s = now (a .store) in
     let checks : storeRefusal s ≡ 0 =
-    sym (c .before .before .before .before .before .before .before .before .before .before .before .check .ensures)
+    sym (c .before .before .before .before .before .before .before .before .before .before .before .before .pre)
     ∙ c .before .before .before .before .before .before .before .before .before .before .if1 .left in
     let ports = c .before .before .before .before .before .decide-ports .ensures in
     let own : InternalDefaultDS =
@@ -61,13 +61,11 @@ returns-2 c =
       ports .0 .1 ∙ yes .1,
     )
 
-pub decide-spec : {M : Type 1} → statement M
-decide-spec =
+pub decide-checked-spec : {M : Type 1} → statement M
+decide-checked-spec =
     tie.close
     (tie.spec
     (λ c κs. search needs)
-    (λ c κs. search needs)
-    (λ c. search needs)
     returns
     slice-read-ports
     slice-read-consuming
