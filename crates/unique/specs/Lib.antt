@@ -3,3 +3,4 @@ pub mod Once
 pub mod Codec
 pub mod Choice
 pub mod Store
+pub mod Log
