@@ -13,7 +13,7 @@ pub const MAX_MESSAGES: usize = 8;
 const MAX_HELD: usize = MAX_MASTERS * MAX_MESSAGES;
 
 /// The longest step of age.
-const LONGEST_STEP: u64 = (1 << 62) - 1;
+pub const LONGEST_STEP: u64 = (1 << 62) - 1;
 
 fn sender(master: &ForeignMaster) -> Sender {
     let identity = master.foreign_master_port_identity;
@@ -25,7 +25,7 @@ fn age(message: &ForeignAnnounceMessage) -> u64 {
     units(message.age)
 }
 
-fn step_line(step: u64) -> Vec<u8> {
+pub fn step_line(step: u64) -> Vec<u8> {
     [&[2], &step.to_be_bytes()[..]].concat()
 }
 
@@ -43,8 +43,7 @@ pub struct History {
 }
 
 impl History {
-    pub fn new(turn: usize, random: &mut Random) -> Self {
-        let world = World::new(turn, random);
+    pub fn new(world: World, random: &mut Random) -> Self {
         let own_profile = world.own_profile(random);
         let mut history = History {
             lines: Vec::new(),
@@ -141,10 +140,7 @@ impl History {
     /// both sides of what is news.
     fn sequence(&self, port: usize, from: Sender, random: &mut Random) -> u16 {
         let any = random.next() as u16;
-        let mut masters = self.book.masters(port).iter();
-        let master = masters.find(|master| sender(master) == from);
-        let last = master.and_then(|master| master.announce_messages.last());
-        let held = last.map(|message| message.header.sequence_id);
+        let held = self.last_held(port, from);
         let newest = self.newest.get(&(port, from)).copied();
         let near = if random.below(2) == 0 { held } else { newest };
         let Some(near) = near else {
@@ -160,6 +156,14 @@ impl History {
             _ => 1,
         };
         near.wrapping_add(difference)
+    }
+
+    /// The sequence of the last message that is held of a sender at a port.
+    pub fn last_held(&self, port: usize, from: Sender) -> Option<u16> {
+        let mut masters = self.book.masters(port).iter();
+        let master = masters.find(|master| sender(master) == from)?;
+        let last = master.announce_messages.last()?;
+        Some(last.header.sequence_id)
     }
 
     /// Adds a frame of one who sends at each interval: the next one, or now and then the last again or

@@ -22,7 +22,8 @@ impl Histories {
     /// The next line: a fresh start where a history is over.
     pub fn line(&mut self, random: &mut Random) -> Vec<u8> {
         if self.lines.is_empty() {
-            self.lines = history(self.turn, random).into();
+            let world = World::new(self.turn, random);
+            self.lines = history(self.turn, world, random).lines.into();
             self.turn += 1;
         }
         self.lines.pop_front().expect("a history has a line")
@@ -31,8 +32,8 @@ impl Histories {
 
 /// A history: a fresh start, decided at once or not, what its aim asks for, and the whole book at the
 /// end.
-fn history(turn: usize, random: &mut Random) -> Vec<Vec<u8>> {
-    let mut history = History::new(turn, random);
+pub fn history(turn: usize, world: World, random: &mut Random) -> History {
+    let mut history = History::new(world, random);
     if turn % 3 == 0 {
         history.decisions(1, random);
     }
@@ -43,7 +44,7 @@ fn history(turn: usize, random: &mut Random) -> Vec<Vec<u8>> {
         Aim::Crowded => crowded(&mut history, random),
     }
     history.add(vec![3]);
-    history.lines
+    history
 }
 
 /// Frames, steps of age, decisions, and now and then the whole book, up to so many lines. There are more

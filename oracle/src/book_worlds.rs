@@ -1,9 +1,12 @@
 // The small worlds of the histories of book-lines: our clock, the ports, the senders, their frames and what these tell.
 
 use crate::books::{MAX_LISTED, MAX_PORTS};
-use crate::candidates::{self, identity, near, put, Candidate, Profile, GRANDMASTER, STEPS};
+use crate::candidates::{
+    self, change, get, identity, near, put, Candidate, Profile, ACCURACY, GRANDMASTER, PROFILE,
+    STEPS,
+};
 use crate::decision_lines::circle;
-use crate::frames::kept;
+use crate::frames::{kept, unfolded};
 use crate::random::Random;
 use crate::tlv_frames::{frame, good, message, padded};
 
@@ -103,6 +106,18 @@ impl World {
         }
     }
 
+    /// A world of a log: any sender is acceptable, and more often there are four to seven ports.
+    pub fn of_log(turn: usize, random: &mut Random) -> Self {
+        let mut world = Self::new(turn, random);
+        world.is_listed = false;
+        let is_small = !world.aim.is_full() && world.intervals.len() < 4;
+        if is_small && random.below(5) == 0 {
+            let interval = world.intervals[0];
+            world.intervals.resize(4 + random.below(4), interval);
+        }
+        world
+    }
+
     /// The line of the fresh start.
     pub fn start(&self) -> Vec<u8> {
         let mut line = vec![0];
@@ -178,6 +193,19 @@ impl World {
             }
         });
         contents.collect()
+    }
+
+    /// What our own clock says of itself where it is close to what a grandmaster says: most often one
+    /// field apart.
+    pub fn close_profile(&self, random: &mut Random) -> Profile {
+        let content = self.content(0, random);
+        let mut profile = *content.first_chunk().expect("it stands at the start");
+        let accuracy = get(&profile, ACCURACY) as u8;
+        put(&mut profile, ACCURACY, unfolded(accuracy).into());
+        if random.below(4) > 0 {
+            change(&mut profile, random.of(&PROFILE), random);
+        }
+        profile
     }
 
     /// What our own clock says of itself.

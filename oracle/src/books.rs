@@ -1,11 +1,11 @@
 // The subcommand books: what the crate holds of the announces of several ports and decides by them, from one fresh start to the next.
 
 use crate::bmc::acceptable_master::AcceptableMasterList;
-use crate::bmc::bmca::{BestAnnounceMessage, Bmca};
+use crate::bmc::bmca::{BestAnnounceMessage, Bmca, RecommendedState};
 use crate::bmc::foreign_master::ForeignMaster;
 use crate::datastructures::common::{ClockIdentity, PortIdentity, TimeInterval};
 use crate::datastructures::datasets::InternalDefaultDS;
-use crate::datastructures::messages::{AnnounceMessage, MessageBody};
+use crate::datastructures::messages::{AnnounceMessage, Header, MessageBody};
 use crate::decisions::{best_of, listens, recommended, told, NONE};
 use crate::lines::{hex, sign};
 use crate::messages::read;
@@ -18,7 +18,7 @@ pub const MAX_LISTED: usize = 16;
 
 /// Which senders are acceptable: any, or those of a list.
 #[derive(Clone)]
-enum Acceptable {
+pub enum Acceptable {
     Any,
     Listed(Vec<ClockIdentity>),
 }
@@ -40,7 +40,35 @@ impl Book {
         Self(Vec::new())
     }
 
-    /// The masters of a port, which is counted from 0 here.
+    /// A fresh start: our clock, the rule, and an interval for each port.
+    pub fn fresh(own: ClockIdentity, rule: &Acceptable, intervals: &[TimeInterval]) -> Self {
+        let ports = intervals.iter().zip(1..).map(|(interval, port_number)| {
+            let identity = PortIdentity {
+                clock_identity: own,
+                port_number,
+            };
+            Bmca::new(rule.clone(), *interval, identity)
+        });
+        Self(ports.collect())
+    }
+
+    /// How many ports there are.
+    pub fn count(&self) -> usize {
+        self.0.len()
+    }
+
+    /// Where a port is found by its number, which is counted from 1.
+    pub fn place(&self, number: u8) -> Option<usize> {
+        let place = usize::from(number).checked_sub(1)?;
+        (place < self.count()).then_some(place)
+    }
+
+    /// The identity of a port, which is counted from 0 here and below.
+    pub fn identity(&self, port: usize) -> PortIdentity {
+        self.0[port].own_port_identity
+    }
+
+    /// The masters of a port.
     pub fn masters(&self, port: usize) -> &[ForeignMaster] {
         &self.0[port].foreign_master_list.foreign_masters
     }
@@ -78,44 +106,54 @@ impl Book {
         } else {
             Acceptable::Any
         };
-        let mut ports = Vec::new();
+        let mut intervals = Vec::new();
         while !rest.0.is_empty() {
-            let identity = PortIdentity {
-                clock_identity: own,
-                port_number: ports.len() as u16 + 1,
-            };
-            ports.push(Bmca::new(rule.clone(), rest.interval()?, identity));
+            intervals.push(rest.interval()?);
         }
-        if count > MAX_LISTED || ports.len() > MAX_PORTS {
+        if count > MAX_LISTED || intervals.len() > MAX_PORTS {
             return None;
         }
-        self.0 = ports;
+        *self = Self::fresh(own, &rule, &intervals);
         Some(format!("00 {}", self.told(in_short)))
     }
 
     /// A frame at a port: whether the crate says yes, and how many messages it put out.
-    fn register(&mut self, port: u8, frame: &[u8]) -> Option<String> {
-        let (held, taken) = (self.held(), self.taken());
-        let receiver = self.0.get_mut(usize::from(port).checked_sub(1)?)?;
-        let message = match read(frame) {
-            Ok(message) => message,
+    fn register(&mut self, number: u8, frame: &[u8]) -> Option<String> {
+        let port = self.place(number)?;
+        let (header, announce) = match announce(frame) {
+            Ok(read) => read,
             Err(refusal) => return Some(refusal.to_string()),
         };
-        let MessageBody::Announce(announce) = message.body else {
-            panic!("another message than an announce is refused");
-        };
-        let yes = receiver.register_announce_message(&message.header, &announce);
-        let evicted = held + (self.taken() - taken) - self.held();
+        let held = self.held();
+        let (yes, taken) = self.hear(port, &header, &announce);
+        let evicted = held + taken - self.held();
         let told = self.told(in_short);
         Some(format!("00 {} {evicted:x} {told}", sign(yes)))
+    }
+
+    /// An announce at a port: whether the crate says yes, and how many messages its lists took in.
+    pub fn hear(
+        &mut self,
+        port: usize,
+        header: &Header,
+        announce: &AnnounceMessage,
+    ) -> (bool, usize) {
+        let before = self.taken(port);
+        let yes = self.0[port].register_announce_message(header, announce);
+        (yes, self.taken(port) - before)
+    }
+
+    /// A step of age at all ports.
+    pub fn step_age(&mut self, step: Duration) {
+        for port in &mut self.0 {
+            port.step_age(step);
+        }
     }
 
     /// A step of age at all ports: how many messages it put out.
     fn age(&mut self, step: Duration) -> String {
         let held = self.held();
-        for port in &mut self.0 {
-            port.step_age(step);
-        }
+        self.step_age(step);
         let aged_out = held - self.held();
         format!("00 {aged_out:x} {}", self.told(in_short))
     }
@@ -140,27 +178,33 @@ impl Book {
 
     /// A decision: how many candidates there are and the place of the one chosen at once among all, how
     /// many messages it consumed, and for each port its state and what that carries.
-    /// Each port takes its best message first, as the crate's instance has it.
     fn decide(&mut self, own: &InternalDefaultDS, listening: u8) -> String {
         let at_once = chosen_at_once(&self.candidates());
         let held = self.held();
-        let ports = self.0.iter_mut();
-        let erbests: Vec<_> = ports
-            .map(|port| port.take_best_port_announce_message())
-            .collect();
+        let states = self.states(own, listening);
         let consumed = held - self.held();
-        let found: Vec<_> = erbests.iter().copied().flatten().collect();
-        let ebest = best_of(&found);
-        let states = erbests.iter().zip(1..).map(|(erbest, number)| {
-            told(
-                recommended(own, listens(listening, number), ebest, *erbest),
-                |own| hex(&own_bytes(own)),
-                in_short,
-            )
-        });
+        let states = states.map(|state| told(state, |own| hex(&own_bytes(own)), in_short));
         let states = states.collect::<Vec<_>>().join(" ");
         let told = self.told(in_short);
         format!("00 {at_once} {consumed:x} {states} {told}")
+    }
+
+    /// The states of a decision, port 1 first. Each port takes its best message first, as the crate's
+    /// instance has it.
+    pub fn states<'own>(
+        &mut self,
+        own: &'own InternalDefaultDS,
+        listening: u8,
+    ) -> impl Iterator<Item = Option<RecommendedState>> + 'own {
+        let mut erbests = [None; MAX_PORTS];
+        for (erbest, port) in erbests.iter_mut().zip(&mut self.0) {
+            *erbest = port.take_best_port_announce_message();
+        }
+        let ebest = Bmca::<()>::find_best_announce_message(erbests.into_iter().flatten());
+        let ports = erbests.into_iter().take(self.count()).zip(1..);
+        ports.map(move |(erbest, number)| {
+            recommended(own, listens(listening, number), ebest, erbest)
+        })
     }
 
     fn all_masters(&self) -> impl Iterator<Item = &ForeignMaster> {
@@ -168,17 +212,16 @@ impl Book {
     }
 
     /// How many messages are held.
-    fn held(&self) -> usize {
+    pub fn held(&self) -> usize {
         self.all_masters()
             .map(|master| master.announce_messages.len())
             .sum()
     }
 
-    /// How many messages the masters held now have ever taken in.
-    fn taken(&self) -> usize {
-        self.all_masters()
-            .map(|master| master.announce_messages.taken())
-            .sum()
+    /// How many messages the masters that a port holds now have ever taken in.
+    fn taken(&self, port: usize) -> usize {
+        let masters = self.masters(port).iter();
+        masters.map(|master| master.announce_messages.taken()).sum()
     }
 
     /// All that is held, each message's content in these words.
@@ -198,6 +241,15 @@ impl Book {
             }
         }
         tokens.join(" ")
+    }
+}
+
+/// The header and the announce that a frame holds, or the number of the refusal.
+pub fn announce(frame: &[u8]) -> Result<(Header, AnnounceMessage), &'static str> {
+    let message = read(frame)?;
+    match message.body {
+        MessageBody::Announce(announce) => Ok((message.header, announce)),
+        _ => panic!("another message than an announce is refused"),
     }
 }
 

@@ -107,20 +107,30 @@ pub fn recommended(
     Bmca::<()>::calculate_recommended_state(own, ebest, erbest, &port_state)
 }
 
-/// The number of a state, 0 where the port stays as it is, and what it carries in these words.
+/// The number of a state and what it carries in these words.
 pub fn told(
     state: Option<RecommendedState>,
     own: fn(&InternalDefaultDS) -> String,
     message: fn(&AnnounceMessage) -> String,
 ) -> String {
-    let (number, carried) = match &state {
-        None => (0, NONE.to_string()),
-        Some(RecommendedState::M1(data)) => (1, own(data)),
-        Some(RecommendedState::M2(data)) => (2, own(data)),
-        Some(RecommendedState::M3(ebest)) => (3, message(ebest)),
-        Some(RecommendedState::P1(erbest)) => (4, message(erbest)),
-        Some(RecommendedState::P2(erbest)) => (5, message(erbest)),
-        Some(RecommendedState::S1(ebest)) => (6, message(ebest)),
+    use RecommendedState::*;
+    let carried = match &state {
+        None => NONE.to_string(),
+        Some(M1(data) | M2(data)) => own(data),
+        Some(M3(best) | P1(best) | P2(best) | S1(best)) => message(best),
     };
-    format!("{number:02x} {carried}")
+    format!("{:02x} {carried}", number(&state))
+}
+
+/// The number of a state, 0 where the port stays as it is.
+pub fn number(state: &Option<RecommendedState>) -> u8 {
+    match state {
+        None => 0,
+        Some(RecommendedState::M1(_)) => 1,
+        Some(RecommendedState::M2(_)) => 2,
+        Some(RecommendedState::M3(_)) => 3,
+        Some(RecommendedState::P1(_)) => 4,
+        Some(RecommendedState::P2(_)) => 5,
+        Some(RecommendedState::S1(_)) => 6,
+    }
 }

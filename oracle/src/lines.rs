@@ -13,14 +13,15 @@ pub fn run(
     input: &mut impl BufRead,
     output: &mut impl Write,
 ) -> Result<(), Error> {
-    let mut line = Vec::new();
+    let (mut line, mut bytes) = (Vec::new(), Vec::new());
     for number in 1_u64.. {
         line.clear();
         if input.read_until(b'\n', &mut line)? == 0 {
             break;
         }
         let digits = line.strip_suffix(b"\n").unwrap_or(&line);
-        let Some(text) = bytes_of(digits).and_then(|bytes| answer(&bytes)) else {
+        let text = spells(digits, &mut bytes).then(|| answer(&bytes));
+        let Some(text) = text.flatten() else {
             let wanted = format!("{what} of at most {MAX_FRAME} bytes in hexadecimal");
             let text = format!("line {number}: no {wanted}");
             return Err(Error::new(ErrorKind::InvalidData, text));
@@ -30,7 +31,7 @@ pub fn run(
     Ok(())
 }
 
-/// Writes so many lines as they are made from a seed.
+/// Writes so many lines as they are made from a seed, digits or any other bytes.
 pub fn make(
     mut line: impl FnMut(u64, &mut Random) -> Vec<u8>,
     seed: u64,
@@ -39,23 +40,47 @@ pub fn make(
 ) -> Result<(), Error> {
     let mut random = Random::new(seed);
     for index in 0..count {
-        let line = line(index, &mut random);
-        let digits: String = line.iter().map(|byte| format!("{byte:02X}")).collect();
-        writeln!(output, "{digits}")?;
+        output.write_all(&line(index, &mut random))?;
+        output.write_all(b"\n")?;
     }
     Ok(())
 }
 
-/// The bytes that a line spells.
-fn bytes_of(digits: &[u8]) -> Option<Vec<u8>> {
-    if digits.len() % 2 != 0 || digits.len() > 2 * MAX_FRAME {
-        return None;
+/// The value of a byte as a hexadecimal digit of either case; NO_DIGIT for any other byte.
+const VALUES: [u8; 256] = values();
+const NO_DIGIT: u8 = 0xff;
+
+const fn values() -> [u8; 256] {
+    let mut values = [NO_DIGIT; 256];
+    let mut value = 0;
+    while value < 16 {
+        values[b"0123456789abcdef"[value] as usize] = value as u8;
+        values[b"0123456789ABCDEF"[value] as usize] = value as u8;
+        value += 1;
     }
-    let digit = |byte: u8| (byte as char).to_digit(16).map(|value| value as u8);
-    digits
-        .chunks(2)
-        .map(|pair| Some(digit(pair[0])? << 4 | digit(pair[1])?))
-        .collect()
+    values
+}
+
+/// Whether a line spells bytes; these are then in the buffer, which is used again for each line.
+pub fn spells(digits: &[u8], bytes: &mut Vec<u8>) -> bool {
+    bytes.clear();
+    if digits.len() % 2 != 0 || digits.len() > 2 * MAX_FRAME {
+        return false;
+    }
+    let value = |digit: u8| VALUES[usize::from(digit)];
+    let mut all = 0;
+    bytes.extend(digits.chunks_exact(2).map(|pair| {
+        let (high, low) = (value(pair[0]), value(pair[1]));
+        all |= high | low;
+        high << 4 | low
+    }));
+    all < 16
+}
+
+/// The digits of a line, in upper case.
+pub fn digits(line: &[u8]) -> Vec<u8> {
+    let text: String = line.iter().map(|byte| format!("{byte:02X}")).collect();
+    text.into_bytes()
 }
 
 /// A flag or the sign of a number: one digit.

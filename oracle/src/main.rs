@@ -15,6 +15,11 @@ mod decisions;
 mod frames;
 mod kinds;
 mod lines;
+mod log;
+mod log_counts;
+mod log_endings;
+mod log_lines;
+mod log_odd;
 mod messages;
 mod port;
 mod ptp_instance;
@@ -24,9 +29,12 @@ mod state_lines;
 mod time;
 mod tlv_frames;
 
+use lines::digits;
+use log_counts::Counts;
 use random::Random;
 use std::fmt::Display;
-use std::io::{stdin, stdout, BufWriter, Error, ErrorKind, Write};
+use std::fs::File;
+use std::io::{stdin, stdout, BufReader, BufWriter, Error, ErrorKind, Write};
 use std::process::ExitCode;
 
 const HELP: &str = "\
@@ -35,10 +43,14 @@ usage: oracle codec                      answer frames: header and announce
        oracle kinds                      write what each number of a TLV type is
        oracle decisions                  answer comparisons, choices and decisions
        oracle books                      answer what ports hear, hold and decide
+       oracle log                        answer a log: the log program
        oracle frames SEED COUNT          write COUNT frames
        oracle tlv-frames SEED COUNT      write COUNT frames with TLVs
        oracle decision-lines SEED COUNT  write COUNT lines for decisions
        oracle book-lines SEED COUNT      write COUNT lines for books
+       oracle log-lines SEED COUNT       write COUNT lines for log
+       oracle log-counts ANSWERS         count a log's lines by their answers
+       oracle log-counts LOG ANSWERS ..  the same for one or more logs
        oracle --help                     this text
 
 codec, messages, decisions and books read standard input: each line 0 to 2,048
@@ -111,11 +123,42 @@ and content with colons between. The content is the hash FNV-1a (8 digits) of
 the 64 bytes of the message, written again over zeros; for 03 it is those bytes.
 Ages, counts and places have no leading zeros.
 
-frames, tlv-frames, decision-lines and book-lines write the same for the same
-SEED. SEED and COUNT are decimal numbers below 2^64.
+log: reads standard input of any bytes. A line ends at LF or at the end of the
+input, and has at most 4,096 hexadecimal digits of either case.
+  00 COUNT CLOCK PROFILE INTERVAL..   a setup; COUNT (1) says how many intervals
+  01 PORT FRAME                       a frame at a port
+  02 STEP                             a step of age at all ports
+  03 LISTENING                        a decision; bits above the count are zero
+Each line is answered with its number, two upper-case digits: 00 done; 01 to 05
+as messages tells a refusal of a frame; 06 no such port; 07 from our own port;
+09 from our own clock; 0A an old sequence; 0B 255 steps or more; 0C a ninth
+master; 0D a step of 2^62 or more; 0E port count or interval out of range; 11
+any other line, and any but a setup before a first good one. A decision adds the
+number of the state of each port. A refused setup leaves all as it was. Where
+the crate did not do what a number says, the program panics.
 
-exit: 0 done, 1 reading or writing failed, 2 bad usage or a line of another shape
+log-counts: the log is standard input or a file LOG, and ANSWERS a file that has
+a line for each of its lines. It writes how many lines of each kind gave each
+number, and how many ports each state, as rows of Markdown.
+
+frames, tlv-frames, decision-lines, book-lines and log-lines write the same for
+the same SEED. SEED and COUNT are decimal numbers below 2^64.
+
+exit: 0 done, 1 reading or writing failed, 2 bad usage, a line of another shape,
+or answers that are not those of the log, 101 the crate differs from the paper
 ";
+
+/// The subcommands that make lines from a seed.
+const MAKERS: [&str; 5] = [
+    "frames",
+    "tlv-frames",
+    "decision-lines",
+    "book-lines",
+    "log-lines",
+];
+
+/// How many bytes are read or written at once.
+const BLOCK: usize = 1 << 16;
 
 fn main() -> ExitCode {
     let args: Vec<String> = std::env::args_os()
@@ -123,7 +166,7 @@ fn main() -> ExitCode {
         .map(|arg| arg.to_string_lossy().into_owned())
         .collect();
     let args: Vec<&str> = args.iter().map(String::as_str).collect();
-    let mut output = BufWriter::new(stdout().lock());
+    let mut output = BufWriter::with_capacity(BLOCK, stdout().lock());
     let done = match args[..] {
         ["--help" | "-h"] => output.write_all(HELP.as_bytes()),
         ["codec"] => answer("frame", |frame| Some(codec::answer(frame)), &mut output),
@@ -134,23 +177,35 @@ fn main() -> ExitCode {
             answer("line of a book", |line| book.answer(line), &mut output)
         }
         ["kinds"] => kinds::run(&mut output),
-        [name @ ("frames" | "tlv-frames" | "decision-lines" | "book-lines"), seed, count] => {
+        ["log"] => {
+            let mut input = BufReader::with_capacity(BLOCK, stdin().lock());
+            log::run(&mut input, &mut output)
+        }
+        ["log-counts", ref files @ ..] if are_files_of_logs(files) => {
+            log_counts(files).and_then(|counts| counts.write(&mut output))
+        }
+        ["log-counts", ..] => {
+            return bad_usage("log-counts takes ANSWERS, or pairs of LOG and ANSWERS")
+        }
+        [name, seed, count] if MAKERS.contains(&name) => {
             let (Ok(seed), Ok(count)) = (seed.parse(), count.parse()) else {
                 return bad_usage("SEED and COUNT are decimal numbers below 2^64");
             };
             let mut histories = book_lines::Histories::new();
+            let mut logs = log_lines::Logs::new();
             let line = |index, random: &mut Random| match name {
-                "frames" => frames::kept(frames::frame(index, random)),
-                "tlv-frames" => frames::kept(tlv_frames::frame(index, random)),
-                "decision-lines" => decision_lines::line(index, random),
-                _ => histories.line(random),
+                "frames" => digits(&frames::kept(frames::frame(index, random))),
+                "tlv-frames" => digits(&frames::kept(tlv_frames::frame(index, random))),
+                "decision-lines" => digits(&decision_lines::line(index, random)),
+                "book-lines" => digits(&histories.line(random)),
+                _ => logs.line(random),
             };
             lines::make(line, seed, count, &mut output)
         }
-        [name @ ("frames" | "tlv-frames" | "decision-lines" | "book-lines"), ..] => {
+        [name, ..] if MAKERS.contains(&name) => {
             return bad_usage(&format!("{name} takes SEED and COUNT"))
         }
-        [name @ ("codec" | "messages" | "kinds" | "decisions" | "books"), ..] => {
+        [name @ ("codec" | "messages" | "kinds" | "decisions" | "books" | "log"), ..] => {
             return bad_usage(&format!("{name} takes no arguments"))
         }
         [] => return bad_usage("no subcommand"),
@@ -161,6 +216,31 @@ fn main() -> ExitCode {
         Err(error) if error.kind() == ErrorKind::InvalidData => fail(2, error),
         Err(error) => fail(1, error),
     }
+}
+
+/// Whether there is one file of answers, or pairs of a log and its answers.
+fn are_files_of_logs(files: &[&str]) -> bool {
+    files.len() == 1 || files.len() > 0 && files.len() % 2 == 0
+}
+
+/// The counts of the log of standard input with one file of answers, or of pairs of files.
+fn log_counts(files: &[&str]) -> Result<Counts, Error> {
+    let mut counts = Counts::default();
+    match files {
+        [answers] => counts.add(&mut stdin().lock(), opened(answers)?)?,
+        pairs => {
+            for pair in pairs.chunks_exact(2) {
+                counts.add(&mut opened(pair[0])?, opened(pair[1])?)?;
+            }
+        }
+    }
+    Ok(counts)
+}
+
+/// A file to read from.
+fn opened(path: &str) -> Result<BufReader<File>, Error> {
+    let named = |error: Error| Error::new(error.kind(), format!("{path}: {error}"));
+    File::open(path).map(BufReader::new).map_err(named)
 }
 
 /// Answers the lines of standard input.

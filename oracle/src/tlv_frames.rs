@@ -105,7 +105,7 @@ fn some_type(random: &mut Random) -> u16 {
 }
 
 /// Adds an entry, whatever its length field says.
-fn add_entry(list: &mut Vec<u8>, tlv_type: u16, length: usize, value: &[u8]) {
+pub fn add_entry(list: &mut Vec<u8>, tlv_type: u16, length: usize, value: &[u8]) {
     list.extend(tlv_type.to_be_bytes());
     list.extend((length as u16).to_be_bytes());
     list.extend(value);
