@@ -13,7 +13,7 @@ use Rattle.slot.specs.declared.ForeignAnnounceMessage.{ForeignAnnounceMessage}
 use Rattle.history.specs.Rules.{messagesMax}
 use Rattle.history.specs.Port.{sender}
 use Rattle.book.specs.Layout.{masterWords, portWords, slotAt, masterAt, portAt, reads}
-use Rattle.book.specs.Rules.{place}
+use Rattle.store.specs.Search.{place}
 
 -- the ninth message puts out the first
 unfoldable pub putsOut : List ℕ → ℕ

@@ -1,5 +1,4 @@
 -- The definitions and laws of taking a message into the book.
-pub mod Refusal
 pub mod Admit
 pub mod MasterView
 pub mod PortView

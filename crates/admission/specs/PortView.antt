@@ -22,8 +22,8 @@ use Rattle.history.specs.Rules.{mastersMax, messagesMax, inStep}
 use Rattle.history.specs.Port.{Master, Port, sender, sequence, newest, listOf, known, with, push, putOut, admit, holding, inOrder}
 use Rattle.book.specs.Below.{first, first-before, first-at, tab, tab-ext, tab-push, length-tab}
 use Rattle.book.specs.Layout.{masterWords, portWords, masterAt, identityOf, messageAt, masterOf, portOf, reads}
-use Rattle.book.specs.Rules.{named, place, place-le}
-use Rattle.admission.specs.Refusal.{lastOf, orderAt, roomRefusal}
+use Rattle.store.specs.Search.{named, place, place-le}
+use Rattle.refusal.specs.Refusal.{lastOf, orderAt, roomRefusal}
 use Rattle.admission.specs.Admit.{appended, begun, masterFor, evictedAt, registered}
 use Rattle.admission.specs.MasterView.{appended-view, begun-view, putsOut-view, length-appended, length-begun}
 

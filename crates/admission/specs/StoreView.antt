@@ -21,9 +21,10 @@ use Rattle.history.specs.Tests.{by}
 use Rattle.history.specs.Parts.{accepted-parts}
 use Rattle.book.specs.Below.{tab, tab-ext, map-tab}
 use Rattle.book.specs.Layout.{portWords, headWords, storeWords, portAt, portOf, siteOf, bookOf, reads, site-same}
-use Rattle.book.specs.Rules.{place, soundWords, held, port-held, master-held}
+use Rattle.store.specs.Search.{place}
+use Rattle.book.specs.Rules.{soundWords, held, port-held, master-held}
 use Rattle.book.specs.View.{accepts-view, own-view}
-use Rattle.admission.specs.Refusal.{refusalAt, refusalIn}
+use Rattle.refusal.specs.Refusal.{refusalAt, refusalIn}
 use Rattle.admission.specs.Admit.{evictedIn, registered, registeredIn}
 use Rattle.admission.specs.PortView.{Usual, order-view, room-view, place-below, evicted-view, registered-view, length-registered}
 

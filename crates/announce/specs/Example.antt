@@ -10,8 +10,8 @@ use lib.ListN.{drop}
 use Rattle.wire.specs.Be.{beAt}
 use Rattle.header.specs.declared.Header.{Header}
 use Rattle.header.specs.declared.HeaderRead.the-variants as H
-use Rattle.header.specs.declared.MessageType.the-variants.{Announce}
-use Rattle.header.specs.Types.{typeOf}
+use Rattle.message_type.specs.declared.MessageType.the-variants.{Announce}
+use Rattle.message_type.specs.Types.{typeOf}
 use Rattle.header.specs.Wire.{headerOf, headerWith, readHeader}
 use Rattle.announce.specs.declared.AnnounceMessage.{AnnounceMessage}
 use Rattle.announce.specs.declared.AnnounceRead.the-variants as A

@@ -12,7 +12,7 @@ use Rattle.wire.specs.BeLaws.{beAt-bound, beAt-same, getD-put-after}
 use Rattle.wire.specs.Layout.{fieldsAt, bytesOfAll}
 use Rattle.wire.specs.LayoutLaws.{length-bytesOfAll, bytes-fields, bytes-fields-then}
 use Rattle.header.specs.declared.Header.{Header}
-use Rattle.header.specs.declared.MessageType.the-variants.{Announce}
+use Rattle.message_type.specs.declared.MessageType.the-variants.{Announce}
 use Rattle.header.specs.Wire.{headerWidths, headerBytes, withHeader}
 use Rattle.header.specs.Again.{part}
 use Rattle.header.specs.RoundTrip as header

@@ -16,8 +16,9 @@ use Rattle.slot.specs.Slot.{decode-source}
 use Rattle.history.specs.Rules.{portsMax, mastersMax, messagesMax, listedMax, stepsLimit, ageLimit}
 use Rattle.history.specs.Port.{sender, steps}
 use Rattle.history.specs.Sound.{holdable, follows}
-use Rattle.book.specs.Below.{all, first, first-le, all-at, and₄}
-use Rattle.book.specs.Layout.{masterWords, portWords, headWords, storeWords, masterAt, portAt, slotAt, identityOf, messageAt, reads}
+use Rattle.store.specs.Below.{all, all-at, and₄}
+use Rattle.store.specs.Layout.{masterWords, portWords, headWords, storeWords, masterAt, portAt, slotAt, identityOf, messageAt, reads}
+use Rattle.store.specs.Search.{place, acceptsHead}
 
 -- message k of a master: it may be held, and after the first it follows the one before
 unfoldable pub ruleAt : ℕ → List ℕ → ℕ → Bool
@@ -35,22 +36,6 @@ pub holdable-word : (limit : ℕ) (m : List ℕ) (k : ℕ)
 unfolding holdable
 holdable-word limit m k =
     ap (λ (b : Bool). b && ltb (steps reads (messageAt m k)) stepsLimit && ltb (messageAt m k .age) limit) (sender-same m k)
-
--- a master of this identity
-abbrev pub named : PortIdentity → List ℕ → Bool
-named src m = samePort (identityOf m) src
-
--- the first master of a port with this identity, or the count
-unfoldable pub place : List ℕ → PortIdentity → ℕ
-place p src = first (getD p 1 0) (λ i. named src (block p (masterAt i) masterWords))
-
-pub place-le : (p : List ℕ) (src : PortIdentity) → place p src ≤ getD p 1 0
-unfolding place
-place-le p src = first-le (λ i. named src (block p (masterAt i) masterWords)) (getD p 1 0)
-
--- whether the head accepts a clock: any, or one of its list
-unfoldable pub acceptsHead : List ℕ → ℕ → Bool
-acceptsHead h clock = eqb (getD h 2 0) 0 || ltb (first (getD h 3 0) (λ i. eqb (getD h (4 + i) 0) clock)) (getD h 3 0)
 
 unfoldable pub masterSound : List ℕ → ℕ → List ℕ → Bool
 masterSound h limit m =

@@ -19,9 +19,10 @@ use Rattle.slot.specs.declared.ForeignAnnounceMessage.{ForeignAnnounceMessage}
 use Rattle.history.specs.Rules.{listedMax, ageLimit}
 use Rattle.history.specs.Port.{Master, accepts, isIn}
 use Rattle.history.specs.Sound.{every, distinct, sources, holdable, follows, soundAfter, soundMessages, soundMaster, soundPort, soundBook}
-use Rattle.book.specs.Below.{all, all-at, all-shift, all-intro, all-ext, all-and, bool-eq, first, first-before, first-found, tab, tab-ext, length-tab, map-tab}
-use Rattle.book.specs.Layout.{masterWords, portWords, headWords, masterAt, portAt, identityOf, messageAt, masterOf, portOf, siteOf, bookOf, reads}
-use Rattle.book.specs.Rules.{ruleAt, place, acceptsHead, masterSound, placed, portSound, portTest, soundWords}
+use Rattle.store.specs.Below.{all, all-at, all-shift, all-intro, all-ext, all-and, bool-eq, first, first-before, first-found, tab, tab-ext, length-tab, map-tab}
+use Rattle.store.specs.Layout.{masterWords, portWords, headWords, masterAt, portAt, identityOf, messageAt, masterOf, portOf, siteOf, bookOf, reads}
+use Rattle.store.specs.Search.{place, acceptsHead}
+use Rattle.book.specs.Rules.{ruleAt, masterSound, placed, portSound, portTest, soundWords}
 
 -- ---- on the values of a function
 

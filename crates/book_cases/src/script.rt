@@ -4,10 +4,9 @@ use book_vectors::calls;
 use book_vectors::rules;
 use book_vectors::starts;
 use book_vectors::starts::Setup;
-use book_vectors::words;
-use book_vectors::words::word;
 use foreign_master::Answer;
 use vectors::tally::Tally;
+use words::word;
 
 // F ports rule interval interval number: a fresh start, with the first interval for port 1 and the second for the others.
 fn fresh(store: &mut [u64], before: &[u64], row: &[u8]) -> bool {

@@ -2,8 +2,7 @@
 use book_vectors::calls;
 use book_vectors::starts;
 use book_vectors::starts::Setup;
-use book_vectors::words;
-use book_vectors::words::word;
+use words::word;
 
 // Seven last sequences, ten differences, of one message held and of a full ring that has wrapped.
 pub const SEQUENCES: u64 = 140;

@@ -1,13 +1,12 @@
 // The calls under test on a store, and their answers.
 ghost use Prim.Native.Nat.{_+_, _≤_};
 use crate::sent;
-use crate::words;
-use crate::words::word;
 use foreign_master::Answer;
 use frame::FrameRead;
 use header::PortIdentity;
 use slot::ForeignAnnounceMessage;
 use vectors::framing;
+use words::word;
 
 // Whether an answer has this number and these tallies, none of them of messages consumed.
 pub fn is(answer: Answer, number: u64, evicted: u64, aged_out: u64) -> bool {

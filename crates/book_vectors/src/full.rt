@@ -1,7 +1,6 @@
 // A full book: eight ports, eight masters each with eight messages, a list of sixteen, much of it at a limit.
 ghost use Prim.Native.Nat.{_≤_};
 use crate::sent;
-use crate::words;
 
 const MAX_INTERVAL: u64 = 0x0FFF_FFFF_FFFF_FFFF;
 

@@ -5,4 +5,3 @@ pub mod full;
 pub mod rules;
 pub mod sent;
 pub mod starts;
-pub mod words;

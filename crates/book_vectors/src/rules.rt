@@ -1,7 +1,6 @@
 // Whether a book is sound, rule by rule as paper 01 lists them.
 ghost use Prim.Native.Nat.{_≤_};
-use crate::words;
-use crate::words::word;
+use words::word;
 
 // Any sender, or those of the list.
 fn acceptable(s: &[u64], clock: u64) -> bool {

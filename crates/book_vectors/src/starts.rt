@@ -1,8 +1,7 @@
 // Fresh starts, and every word that they leave.
 ghost use Prim.Native.Nat.{_≤_};
 use crate::sent;
-use crate::words;
-use crate::words::word;
+use words::word;
 
 // What a fresh start is given: how many ports, a rule with its list, the interval of one port and that of the others.
 pub struct Setup {

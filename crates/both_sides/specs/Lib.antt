@@ -1,2 +1,3 @@
 -- The lines that are marked (P).
+pub mod TlvLines
 pub mod Lines

@@ -2,8 +2,8 @@
 -- contracts of the calls cite, and of the messages that the store holds.
 -- Assumes nothing.
 use mathlib.Core.List.{List, [], _∷_}
-use Rattle.tlv.specs.Lines.{EmptyLast, empty-last, EmptyFirst, empty-first, OddLength, odd-length}
-use Rattle.compare.specs.Lines.{SenderReceives, sender-receives, Circle, circle}
+use Rattle.both_sides.specs.TlvLines.{EmptyLast, empty-last, EmptyFirst, empty-first, OddLength, odd-length}
+use Rattle.compare_laws.specs.Lines.{SenderReceives, sender-receives, Circle, circle}
 use Rattle.decision.specs.Lines.{Classes, classes}
 use Rattle.history.specs.Sound.{Lawful}
 use Rattle.history.specs.Lines.{Sequences, sequences, Steps, steps-removed, Ages, ages, AgesAlone, ages-alone}

@@ -17,9 +17,9 @@ use Rattle.choice.specs.declared.Best.{Best}
 use Rattle.choice.specs.declared.Best.the-variants as best
 use Rattle.choice.specs.Choice.{choose}
 use Rattle.choice.specs.Candidate.{datasetOf, ranking, stays, itself, whole, staysBy, winner, ebest, single, bestOf}
-use Rattle.choice.specs.Agreement.{Agreeing}
+use Rattle.agreement.specs.Agreement.{Agreeing}
 use Rattle.choice.specs.Chosen.{mapOption, choose-map, all-in, all-at, all-map}
-use Rattle.choice.specs.Winner.{winner-in, winner-shown, none-above}
+use Rattle.agreement.specs.Winner.{winner-in, winner-shown, none-above}
 use Rattle.states.specs.Ports.{ebestOf}
 use Rattle.slot.specs.declared.ForeignAnnounceMessage.{ForeignAnnounceMessage}
 use Rattle.history.specs.Port.{Turn}

@@ -1,9 +1,5 @@
--- The definitions and laws of the choice.
+-- The definitions of the choice, and its laws over any test.
 pub mod Choice
 pub mod Candidate
 pub mod Steps
-pub mod Agreement
 pub mod Chosen
-pub mod Ranking
-pub mod Winner
-pub mod Differ

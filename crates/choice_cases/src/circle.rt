@@ -41,7 +41,7 @@ pub fn three(x: Candidate, y: Candidate, z: Candidate) -> [Candidate; 96] {
 
 // Whether the first n of a list give this record.
 pub fn gives(list: [Candidate; 96], n: usize, want: Candidate) -> bool {
-    match choice::best_of(list, n) {
+    match find_best::best_of(list, n) {
         Best::Nothing => false,
         Best::Found(c) => sides::same(c, want),
     }

@@ -59,7 +59,7 @@ const CHOSEN: [u8; 35] = *b"\
     wwwww";
 
 fn none(list: [Candidate; 96], n: usize) -> bool {
-    match choice::best_of(list, n) {
+    match find_best::best_of(list, n) {
         Best::Nothing => true,
         Best::Found(_) => false,
     }

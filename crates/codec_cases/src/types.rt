@@ -1,7 +1,7 @@
 // Cases of the types, and of the length field, which the calls do not look at.
 use crate::reading;
-use header::MessageType;
-use header::TypeRead;
+use message_type::MessageType;
+use message_type::TypeRead;
 use vectors::codec;
 use vectors::frames;
 use vectors::frames::F;

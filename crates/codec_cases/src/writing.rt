@@ -2,8 +2,8 @@
 use announce::AnnounceMessage;
 use announce::WireTimestamp;
 use header::Header;
-use header::MessageType;
 use header::PtpVersion;
+use message_type::MessageType;
 use vectors::codec;
 use vectors::frames;
 use vectors::frames::F;

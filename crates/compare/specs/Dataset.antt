@@ -1,6 +1,6 @@
 -- The data set comparison: IEEE 1588-2019, 9.3.4, figures 34 and 35, as paper 01 and the crate fix it.
 -- Assumes nothing.
-use mathlib.Core.Bool.{Bool, true, false, cond}
+use mathlib.Core.Bool.{cond}
 use mathlib.Core.List.{List, [], _∷_}
 use Prim.Native.Nat.{ℕ, _+_}
 use lib.Dec.{ltb, eqb}
@@ -8,11 +8,12 @@ use Rattle.header.specs.declared.PortIdentity.{PortIdentity}
 use Rattle.announce.specs.declared.AnnounceMessage.{AnnounceMessage}
 use Rattle.order.specs.declared.Ordering.{Ordering}
 use Rattle.order.specs.declared.Ordering.the-variants.{Less, Equal, Greater}
-use Rattle.compare.specs.declared.DatasetOrdering.{DatasetOrdering}
-use Rattle.compare.specs.declared.DatasetOrdering.the-variants.{Better, BetterByTopology, Error1, Error2, WorseByTopology, Worse}
+use Rattle.verdict.specs.declared.DatasetOrdering.{DatasetOrdering}
+use Rattle.verdict.specs.declared.DatasetOrdering.the-variants.{Better, BetterByTopology, Error1, Error2, WorseByTopology, Worse}
 use Rattle.compare.specs.declared.ComparisonDataset.{ComparisonDataset}
 use Rattle.compare.specs.declared.InternalDefaultDS.{InternalDefaultDS}
-use Rattle.order.specs.Order.{cmp, lex, isGreater}
+use Rattle.order.specs.Order.{cmp, lex}
+pub use Rattle.verdict.specs.Verdict.{asOrdering, ranksAbove, isByTopology}
 
 -- the set of an announce message, with the port that received it
 abbrev pub ofAnnounce : AnnounceMessage → PortIdentity → ComparisonDataset
@@ -94,33 +95,3 @@ figure35 a b =
 -- the verdict on the left side
 unfoldable pub compareOf : ComparisonDataset → ComparisonDataset → DatasetOrdering
 compareOf a b = cond (eqb (a .«gm_identity») (b .«gm_identity»)) (figure35 a b) (figure34 a b)
-
--- a verdict as an order: the greater is the better, and the two errors are ties
-abbrev pub asOrdering : DatasetOrdering → Ordering
-asOrdering Better = Greater
-asOrdering BetterByTopology = Greater
-asOrdering Error1 = Equal
-asOrdering Error2 = Equal
-asOrdering WorseByTopology = Less
-asOrdering Worse = Less
-
--- ranks above: Better or BetterByTopology
-abbrev pub ranksAbove : DatasetOrdering → Bool
-ranksAbove v = isGreater (asOrdering v)
-
-abbrev pub isByTopology : DatasetOrdering → Bool
-isByTopology Better = false
-isByTopology BetterByTopology = true
-isByTopology Error1 = false
-isByTopology Error2 = false
-isByTopology WorseByTopology = false
-isByTopology Worse = false
-
--- the verdict seen from the other side
-abbrev pub mirror : DatasetOrdering → DatasetOrdering
-mirror Better = Worse
-mirror BetterByTopology = WorseByTopology
-mirror Error1 = Error1
-mirror Error2 = Error2
-mirror WorseByTopology = BetterByTopology
-mirror Worse = Better

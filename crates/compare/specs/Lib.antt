@@ -1,4 +1,3 @@
--- The definitions and laws of the comparison.
+-- The definitions of the comparison, and its cases.
 pub mod Dataset
 pub mod Laws
-pub mod Lines

@@ -3,19 +3,10 @@ use announce::AnnounceMessage;
 use announce::ClockQuality;
 use header::PortIdentity;
 use order::Ordering;
+pub use verdict::DatasetOrdering;
 ghost use mathlib.Core.Path.{_≡_};
 ghost use Rattle.order.specs.Order.{cmp, lex};
-ghost use Rattle.compare.specs.Dataset.{ofAnnounce, ofOwn, byTopology, nearerBy, fartherBy, topologyRow, figure34, figure35, compareOf, asOrdering, ranksAbove, isByTopology};
-
-// The verdict on the left side of a comparison.
-pub enum DatasetOrdering {
-    Better,
-    BetterByTopology,
-    Error1,
-    Error2,
-    WorseByTopology,
-    Worse,
-}
+ghost use Rattle.compare.specs.Dataset.{ofAnnounce, ofOwn, byTopology, nearerBy, fartherBy, topologyRow, figure34, figure35, compareOf};
 
 // Our own data (D0), as far as the decision reads it.
 pub struct InternalDefaultDS {
@@ -25,7 +16,7 @@ pub struct InternalDefaultDS {
     pub priority_2: u8,
 }
 
-// What the comparison reads of an announce message or of our own own.
+// What the comparison reads of an announce message or of our own data.
 pub struct ComparisonDataset {
     pub gm_priority_1: u8,
     pub gm_identity: u64,
@@ -34,50 +25,6 @@ pub struct ComparisonDataset {
     pub steps_removed: u16,
     pub identity_of_senders: u64,
     pub identity_of_receiver: PortIdentity,
-}
-
-impl DatasetOrdering {
-    // The better ranks greater; the two errors are ties.
-    pub fn as_ordering(self) -> Ordering
-        ensures { λ r. ⌜ r ≡ asOrdering self ⌝ }
-    {
-        match self {
-            DatasetOrdering::Better => Ordering::Greater,
-            DatasetOrdering::BetterByTopology => Ordering::Greater,
-            DatasetOrdering::Error1 => Ordering::Equal,
-            DatasetOrdering::Error2 => Ordering::Equal,
-            DatasetOrdering::WorseByTopology => Ordering::Less,
-            DatasetOrdering::Worse => Ordering::Less,
-        }
-    }
-
-    // Better or BetterByTopology.
-    pub fn ranks_above(self) -> bool
-        ensures { λ r. ⌜ r ≡ ranksAbove self ⌝ }
-    {
-        match self {
-            DatasetOrdering::Better => true,
-            DatasetOrdering::BetterByTopology => true,
-            DatasetOrdering::Error1 => false,
-            DatasetOrdering::Error2 => false,
-            DatasetOrdering::WorseByTopology => false,
-            DatasetOrdering::Worse => false,
-        }
-    }
-
-    // Better, by the network's topology alone.
-    pub fn by_topology(self) -> bool
-        ensures { λ r. ⌜ r ≡ isByTopology self ⌝ }
-    {
-        match self {
-            DatasetOrdering::Better => false,
-            DatasetOrdering::BetterByTopology => true,
-            DatasetOrdering::Error1 => false,
-            DatasetOrdering::Error2 => false,
-            DatasetOrdering::WorseByTopology => false,
-            DatasetOrdering::Worse => false,
-        }
-    }
 }
 
 impl ComparisonDataset {

@@ -7,10 +7,9 @@ use book_vectors::calls;
 use book_vectors::full;
 use book_vectors::rules;
 use book_vectors::sent;
-use book_vectors::words;
-use book_vectors::words::word;
 use foreign_master::Answer;
 use vectors::tally::Tally;
+use words::word;
 
 // How many ways a word is changed.
 const CHANGES: usize = 11;

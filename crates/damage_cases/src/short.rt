@@ -4,7 +4,6 @@ use book_vectors::calls;
 use book_vectors::full;
 use book_vectors::starts;
 use book_vectors::starts::Setup;
-use book_vectors::words;
 
 // Ten lengths, eight calls, on a full book and on words that are no book.
 pub const CASES: u64 = 160;

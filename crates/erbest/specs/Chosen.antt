@@ -18,7 +18,7 @@ use Rattle.book.specs.Layout.{portOf, reads}
 use Rattle.book.specs.Rules.{portSound, held-port, placed-foreign}
 use Rattle.offers.specs.Offers.{masterIn, offersAt, bestAt, offerAt, downFrom, offering}
 use Rattle.offers.specs.View.{offers-view}
-use Rattle.erbest.specs.Compared.{stays-words}
+use Rattle.stays.specs.Compared.{stays-words}
 use Rattle.erbest.specs.Place.{found, bestIn, walk, staysIn, winnerPlace}
 
 -- ---- the walk over places is the choice left to right

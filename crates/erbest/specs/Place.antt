@@ -12,7 +12,7 @@ use lib.ListN.{getD}
 use Rattle.header.specs.declared.PortIdentity.{PortIdentity}
 use Rattle.choice.specs.declared.BestAnnounceMessage.{BestAnnounceMessage}
 use Rattle.offers.specs.Offers.{masterIn, offersAt, bestAt, downFrom, offering}
-use Rattle.erbest.specs.Words.{staysAt}
+use Rattle.stays.specs.Words.{staysAt}
 
 -- what stands at a place below n; n is none
 abbrev pub found : {A : Type 0} → (ℕ → A) → ℕ → ℕ → Option A

@@ -28,7 +28,7 @@ use Rattle.book.specs.Below.{length-tab}
 use Rattle.book.specs.Layout.{storeWords, portWords, portAt, portOf, siteOf, bookOf, reads, lawful}
 use Rattle.book.specs.Rules.{soundWords, storeRefusal, checked}
 use Rattle.book.specs.View.{sound-view}
-use Rattle.admission.specs.Refusal.{refusalIn}
+use Rattle.refusal.specs.Refusal.{refusalIn}
 use Rattle.admission.specs.Admit.{registeredIn}
 use Rattle.admission.specs.StoreView.{number-here, refusal-view, registeredIn-view, length-registeredIn}
 use Rattle.ageing.specs.Age.{agedStore}

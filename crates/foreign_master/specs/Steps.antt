@@ -19,7 +19,7 @@ use Rattle.frame.specs.declared.Message.{Message}
 use Rattle.frame.specs.declared.FrameRead.{FrameRead}
 use Rattle.frame.specs.declared.FrameRead.the-variants as read
 use Rattle.frame.specs.Frame.{frameRefusal, messageAt, readFrame}
-use Rattle.frame.specs.Accepted.{accepted}
+use Rattle.frame_laws.specs.Accepted.{accepted}
 use Rattle.slot.specs.Blocks.{block}
 use Rattle.slot.specs.Slot.{Whole}
 use Rattle.slot.specs.declared.ForeignAnnounceMessage.{ForeignAnnounceMessage}
@@ -30,7 +30,7 @@ use Rattle.history.specs.Sound.{startable}
 use Rattle.history.specs.Found.{register-answer}
 use Rattle.book.specs.Layout.{storeWords, portWords, portAt, siteOf, portOf, bookOf, reads}
 use Rattle.book.specs.Rules.{checked, storeRefusal}
-use Rattle.admission.specs.Refusal.{refusalIn}
+use Rattle.refusal.specs.Refusal.{refusalIn}
 use Rattle.admission.specs.Admit.{evictedIn, registeredIn}
 use Rattle.admission.specs.StoreView.{number-here, number-6, refusal-view, evictedIn-view, others-view}
 use Rattle.ageing.specs.Age.{agedStore, agedOut}

@@ -54,7 +54,7 @@ fn register_at(store: &mut [u64], q: usize, announce: AnnounceMessage) -> Answer
         age: 0,
         receipt: 0,
     };
-    let n = admission::refusal(store, q, m);
+    let n = refusal::refusal(store, q, m);
     if n != 0 {
         return Answer::Refused(n);
     }

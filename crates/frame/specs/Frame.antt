@@ -1,27 +1,22 @@
--- A frame, checked in the order of paper 01, and a frame as it is written.
+-- A frame, checked in the order of paper 01.
 -- Assumes nothing.
 use Prim.Native.Nat.{ℕ, _+_, _-_, _%_}
 use mathlib.Core.List.{List}
-use mathlib.Core.Bool.{Bool, false, cond}
+use mathlib.Core.Bool.{cond}
 use mathlib.Core.Option.{Option, none, some}
 use lib.ListN.{length, take, drop}
 use lib.Dec.{eqb, leb}
-use Rattle.wire.specs.Be.{beAt, put}
+use Rattle.wire.specs.Be.{beAt}
 use Rattle.wire.specs.Refusal.{onZero}
-use Rattle.wire.specs.Write.{writeNumber, writeBuffer}
-use Rattle.header.specs.declared.TypeRead.{TypeRead}
-use Rattle.header.specs.declared.TypeRead.the-variants.{Known, Reserved}
-use Rattle.header.specs.Types.{typeOf, typeNumber}
+use Rattle.message_type.specs.declared.TypeRead.{TypeRead}
+use Rattle.message_type.specs.declared.TypeRead.the-variants.{Known, Reserved}
+use Rattle.message_type.specs.Types.{typeOf, typeNumber}
 use Rattle.header.specs.Wire as header
-use Rattle.announce.specs.declared.AnnounceMessage.{AnnounceMessage}
 use Rattle.announce.specs.Wire as announce
-use Rattle.announce.specs.Message.{withMessage}
-use Rattle.tlv.specs.Tlv.{checkList, wholeEntries}
+use Rattle.tlv.specs.Tlv.{checkList}
 use Rattle.frame.specs.declared.Message.{Message}
 use Rattle.frame.specs.declared.FrameRead.{FrameRead}
 use Rattle.frame.specs.declared.FrameRead.the-variants.{Done, Refused}
-
--- ---- reading
 
 -- the length field, and the TLVs: bytes 64 up to the length
 abbrev pub sizeAt : List ℕ → ℕ
@@ -54,20 +49,3 @@ readFrame s = onZero (frameRefusal s) (Done (messageAt s)) Refused
 abbrev pub answerOf : FrameRead → ℕ × Option Message
 answerOf (Done m) = (0, some m)
 answerOf (Refused n) = (n, none)
-
--- ---- writing
-
--- what the wire can hold: header and content fit, the whole is at most 65,535 bytes, the TLVs are whole even entries
-unfoldable pub fitsOf : AnnounceMessage → List ℕ → Bool
-fitsOf a tlvs = cond (header.fitsOf (a .header) (length tlvs + 30)) (cond (announce.fitsOf a) (wholeEntries tlvs) false) false
-
--- a buffer with the message at its start, and every other byte as it lay
-unfoldable pub withFrame : List ℕ → AnnounceMessage → List ℕ → List ℕ
-withFrame s a tlvs = put (withMessage s a (length tlvs + 64)) 64 tlvs
-
--- the answer of the writer, and the buffer afterwards
-abbrev pub writeAnswer : List ℕ → AnnounceMessage → List ℕ → ℕ
-writeAnswer s a tlvs = writeNumber (fitsOf a tlvs) (length tlvs + 64) s
-
-abbrev pub writeExit : List ℕ → AnnounceMessage → List ℕ → List ℕ
-writeExit s a tlvs = writeBuffer (fitsOf a tlvs) (length tlvs + 64) s (withFrame s a tlvs)

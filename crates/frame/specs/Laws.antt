@@ -11,18 +11,14 @@ use lib.Dec.{eqb, leb}
 use lib.ListN.{length}
 use Rattle.wire.specs.Be.{beAt}
 use Rattle.wire.specs.Refusal.{onZero, on-done, on-refused, on-both}
-use Rattle.header.specs.declared.MessageType.{MessageType}
-use Rattle.header.specs.declared.MessageType.the-variants.{Announce}
-use Rattle.header.specs.declared.TypeRead.{TypeRead}
-use Rattle.header.specs.declared.TypeRead.the-variants.{Known, Reserved}
-use Rattle.header.specs.Types.{typeOf, typeNumber, type-back, number-back}
-use Rattle.header.specs.Wire as header
-use Rattle.header.specs.Laws.{fitting}
-use Rattle.announce.specs.declared.AnnounceMessage.{AnnounceMessage}
-use Rattle.announce.specs.Wire as announce
-use Rattle.tlv.specs.Tlv.{checkList, wholeEntries}
+use Rattle.message_type.specs.declared.MessageType.{MessageType}
+use Rattle.message_type.specs.declared.MessageType.the-variants.{Announce}
+use Rattle.message_type.specs.declared.TypeRead.{TypeRead}
+use Rattle.message_type.specs.declared.TypeRead.the-variants.{Known, Reserved}
+use Rattle.message_type.specs.Types.{typeOf, typeNumber, type-back, number-back}
+use Rattle.tlv.specs.Tlv.{checkList}
 use Rattle.frame.specs.declared.FrameRead.the-variants.{Done, Refused}
-use Rattle.frame.specs.Frame.{sizeAt, tlvsAt, refusalOfType, refusalOf, frameRefusal, messageAt, readFrame, answerOf, fitsOf}
+use Rattle.frame.specs.Frame.{sizeAt, tlvsAt, refusalOfType, refusalOf, frameRefusal, messageAt, readFrame, answerOf}
 
 -- ---- the checks on numbers
 
@@ -132,39 +128,3 @@ module _ (s : List ℕ) where
   pub frame-answer : answerOf (readFrame s) ≡ onZero (frameRefusal s) (0, some (messageAt s)) (λ n. (n, none))
   unfolding readFrame
   frame-answer = on-both answerOf (frameRefusal s) (Done (messageAt s)) Refused
-
--- ---- what fits the wire
-
-module _ (a : AnnounceMessage) (tlvs : List ℕ) where
-  pub unfit-header : header.fitsOf (a .header) (length tlvs + 30) ≡ false → false ≡ fitsOf a tlvs
-  unfolding fitsOf
-  unfit-header e = rw e
-
-  pub unfit-content : header.fitsOf (a .header) (length tlvs + 30) ≡ true → announce.fitsOf a ≡ false → false ≡ fitsOf a tlvs
-  unfolding fitsOf
-  unfit-content e f = rw (e, f)
-
-  pub fit-by-tlvs : header.fitsOf (a .header) (length tlvs + 30) ≡ true → announce.fitsOf a ≡ true → wholeEntries tlvs ≡ fitsOf a tlvs
-  unfolding fitsOf
-  fit-by-tlvs e f = rw (e, f)
-
-  -- what fits
-  pub record Fits : Type 0 where
-    pub head : header.fitsOf (a .header) (length tlvs + 30) ≡ true
-    pub content : announce.fitsOf a ≡ true
-    pub entries : wholeEntries tlvs ≡ true
-
-  pub fits-back : fitsOf a tlvs ≡ true → Fits
-  unfolding fitsOf
-  fits-back e = by (header.fitsOf (a .header) (length tlvs + 30)) (announce.fitsOf a) refl refl e
-    where
-      by : (x y : Bool) → header.fitsOf (a .header) (length tlvs + 30) ≡ x → announce.fitsOf a ≡ y → cond x (cond y (wholeEntries tlvs) false) false ≡ true → Fits
-      by true true ex ey e = record { head = ex; content = ey; entries = e }
-      by true false ex ey e = absurd (let z : _≡_ {A = ℕ} 0 1 = cc in omega arith)
-      by false y ex ey e = absurd (let z : _≡_ {A = ℕ} 0 1 = cc in omega arith)
-
-  -- its length fits the length field
-  pub fits-size : fitsOf a tlvs ≡ true → length tlvs + 64 ≤ 65535
-  fits-size e =
-      let f = fitting _ _ _ _ (fits-back e .head) in
-      omega (arith, f .content-fits)

@@ -17,9 +17,9 @@ use Rattle.wire.specs.Layout.{fieldsAt, bytesOfAll, Fit}
 use Rattle.wire.specs.LayoutLaws.{length-bytesOfAll, bytes-fields, bytes-fields-then, fields-put}
 use Rattle.wire.specs.Write.{wrote-0}
 use Rattle.header.specs.declared.Header.{Header}
-use Rattle.header.specs.declared.MessageType.{MessageType}
-use Rattle.header.specs.declared.TypeRead.the-variants.{Known}
-use Rattle.header.specs.Types.{typeOf, typeNumber, controlOf, number-back}
+use Rattle.message_type.specs.declared.MessageType.{MessageType}
+use Rattle.message_type.specs.declared.TypeRead.the-variants.{Known}
+use Rattle.message_type.specs.Types.{typeOf, typeNumber, controlOf, number-back}
 use Rattle.header.specs.Wire.{portIdentityAt, headerWith, headerOf, headerAt, readHeader, headerWidths, headerValues, headerBytes, withHeader, fitsOf, writeAnswer, writeExit}
 use Rattle.header.specs.Laws.{fitted}
 use Rattle.header.specs.RoundTrip.{fromValues, by-layout, readWired, by-wired, whole-read}

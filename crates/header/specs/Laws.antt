@@ -11,13 +11,13 @@ use lib.Dec.{leb}
 use lib.ListN.{length}
 use Rattle.header.specs.declared.Header.{Header}
 use Rattle.header.specs.declared.DeserializedHeader.{DeserializedHeader}
-use Rattle.header.specs.declared.MessageType.{MessageType}
-use Rattle.header.specs.declared.TypeRead.{TypeRead}
-use Rattle.header.specs.declared.TypeRead.the-variants.{Known, Reserved}
+use Rattle.message_type.specs.declared.MessageType.{MessageType}
+use Rattle.message_type.specs.declared.TypeRead.{TypeRead}
+use Rattle.message_type.specs.declared.TypeRead.the-variants.{Known, Reserved}
 use Rattle.header.specs.declared.HeaderRead.the-variants.{Done, Refused}
 use Rattle.wire.specs.Be.{beAt}
 use Rattle.wire.specs.Below.{both}
-use Rattle.header.specs.Types.{typeOf}
+use Rattle.message_type.specs.Types.{typeOf}
 use Rattle.header.specs.Wire.{headerAt, readType, readHeader, answerOf, fitsWire}
 
 -- ---- what the wire can hold

@@ -1,5 +1,4 @@
 -- The definitions and laws of the header.
-pub mod Types
 pub mod Wire
 pub mod Laws
 pub mod RoundTrip

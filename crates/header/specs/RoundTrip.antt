@@ -18,10 +18,10 @@ use Rattle.wire.specs.Layout.{fieldsAt, Fit}
 use Rattle.wire.specs.LayoutLaws.{length-bytesOfAll, bytes-bytesOfAll, fields-before}
 use Rattle.wire.specs.Write.{done}
 use Rattle.header.specs.declared.Header.{Header}
-use Rattle.header.specs.declared.MessageType.{MessageType}
+use Rattle.message_type.specs.declared.MessageType.{MessageType}
 use Rattle.header.specs.declared.HeaderRead.{HeaderRead}
 use Rattle.header.specs.declared.HeaderRead.the-variants.{Done, Refused}
-use Rattle.header.specs.Types.{typeOf, typeNumber, controlOf, number-le, control-le, type-back}
+use Rattle.message_type.specs.Types.{typeOf, typeNumber, controlOf, number-le, control-le, type-back}
 use Rattle.header.specs.Wire.{headerWith, headerOf, headerAt, headerWidths, headerValues, headerBytes, bits6, bits7, withHeader, readType, readHeader, fitsOf, writeAnswer, writeExit}
 use Rattle.header.specs.Laws.{fitting, read-0}
 

@@ -13,13 +13,13 @@ use Rattle.wire.specs.Be.{beAt, put}
 use Rattle.wire.specs.Flags.{bit, pack}
 use Rattle.wire.specs.Layout.{bytesOfAll}
 use Rattle.wire.specs.Write.{writeNumber, writeBuffer}
-use Rattle.header.specs.Types.{typeOf, typeNumber, controlOf}
+use Rattle.message_type.specs.Types.{typeOf, typeNumber, controlOf}
 use Rattle.header.specs.declared.PortIdentity.{PortIdentity}
 use Rattle.header.specs.declared.Header.{Header}
 use Rattle.header.specs.declared.DeserializedHeader.{DeserializedHeader}
-use Rattle.header.specs.declared.MessageType.{MessageType}
-use Rattle.header.specs.declared.TypeRead.{TypeRead}
-use Rattle.header.specs.declared.TypeRead.the-variants.{Known, Reserved}
+use Rattle.message_type.specs.declared.MessageType.{MessageType}
+use Rattle.message_type.specs.declared.TypeRead.{TypeRead}
+use Rattle.message_type.specs.declared.TypeRead.the-variants.{Known, Reserved}
 use Rattle.header.specs.declared.HeaderRead.{HeaderRead}
 use Rattle.header.specs.declared.HeaderRead.the-variants.{Done, Refused}
 

@@ -8,7 +8,7 @@ ghost use Rattle.wire.specs.Flags.{num, pack};
 ghost use Rattle.header.specs.Wire.{bits6, bits7, withHeader, fitsWire, writeAnswer, writeExit};
 use header::HEADER_SIZE;
 use header::Header;
-use header::MessageType;
+use message_type::MessageType;
 
 // How many bytes may follow it, so that the length field can tell the whole.
 const CONTENT_LIMIT: usize = 65501;

@@ -14,9 +14,9 @@ use Rattle.compare.specs.Dataset.{compareOf, ranksAbove}
 use Rattle.choice.specs.declared.BestAnnounceMessage.{BestAnnounceMessage}
 use Rattle.choice.specs.Choice.{choose, joined, All}
 use Rattle.choice.specs.Candidate.{datasetOf, whole, staysBy, winner, erbests, ebest, single}
-use Rattle.choice.specs.Agreement.{SameData, Foreign, Agreeing}
+use Rattle.agreement.specs.Agreement.{SameData, Foreign, Agreeing}
 use Rattle.choice.specs.Chosen.{mapOption, choose-map, all-at}
-use Rattle.choice.specs.Winner.{choosing-once, erbest-none-above, ebest-none-above}
+use Rattle.agreement.specs.Winner.{choosing-once, erbest-none-above, ebest-none-above}
 use Rattle.states.specs.Ports.{answersOf, ebestOf, decisionOf}
 use Rattle.states.specs.Slave.{recommendsS1, slavePort, flagsFrom, flags, ones, Received, decision-flags, decision-count}
 use Rattle.history.specs.Rules.{ageLimit}

@@ -1,3 +1,3 @@
--- The definitions of the lines `01`, `02` and `03` of the log, and the laws for their code.
+-- The definitions of the lines `01` and `02` of the log, and the laws for their code.
 pub mod Call
 pub mod Steps

@@ -4,7 +4,7 @@ ghost use Prim.Native.Nat.{_≤_};
 ghost use lib.ListN.{length};
 ghost use Rattle.book.specs.Rules.{storeRefusal};
 ghost use Rattle.log_answer.specs.Answer.{answerBytes, Known, Answers};
-ghost use Rattle.log_line.specs.Line.{kindAsked, askedOf, asked, lineAnswered, lineStore, lineOut, noneAnswered, noneOut};
+ghost use Rattle.log_asked.specs.Line.{kindAsked, askedOf, asked, lineAnswered, lineStore, lineOut, noneAnswered, noneOut};
 use log_answer::ANSWER_BYTES;
 use log_answer::Answered;
 use log_answer::SHAPELESS;
@@ -29,7 +29,7 @@ fn kind_line(
         return log_call::step_line(store, checked, setup, line, out);
     }
     if kind == 3 {
-        return log_call::decision_line(store, checked, setup, line, out);
+        return log_decision::decision_line(store, checked, setup, line, out);
     }
     log_answer::told(setup, SHAPELESS, out)
 }

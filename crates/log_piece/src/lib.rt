@@ -5,25 +5,14 @@ ghost use Prim.Native.Nat.{_≤_};
 ghost use lib.ListN.{length, take};
 ghost use Rattle.lines.specs.Lines.{nextLine, keptOf, lastOf};
 ghost use Rattle.log_answer.specs.Answer.{Known};
-ghost use Rattle.log_line.specs.Line.{lineAnswered, lineStore, lineOut};
-ghost use Rattle.log_piece.specs.Piece.{stepOf, stepStore, stepOut, StepWithin, restOf, restStore, restOut, RestWithin};
+ghost use Rattle.log_asked.specs.Line.{lineAnswered, lineStore, lineOut};
+ghost use Rattle.log_step.specs.Piece.{stepOf, stepStore, stepOut, StepWithin, restOf, restStore, restOut, RestWithin};
 use lines::Cut;
 use lines::Last;
 use log_answer::Answered;
 use log_answer::Setup;
-
-// What a call on a piece finds: a line, which is answered, and the place after its LF; or no LF, and how many bytes of the unfinished
-// line are kept.
-pub enum Step {
-    Line { answered: Answered, next: usize },
-    Taken { count: usize },
-}
-
-// What the end of the input finds: a line, which is answered, or none.
-pub enum Rest {
-    Line(Answered),
-    Nothing,
-}
+use log_step::Rest;
+use log_step::Step;
 
 // Answers the line of n bytes at the start of the buffer.
 fn kept_line(store: &mut [u64], setup: Setup, buffer: &[u8], n: usize, out: &mut [u8]) -> Answered

@@ -5,7 +5,7 @@ use mathlib.Core.Path.{_≡_, ap}
 use mathlib.Core.Bool.{Bool, cond}
 use mathlib.Core.List.{List, [], _∷_, _++_}
 use Rattle.wire.specs.Be.{beAt, bytesOf}
-use Rattle.header.specs.Types.{typeOf}
+use Rattle.message_type.specs.Types.{typeOf}
 use Rattle.header.specs.Wire.{headerWith, headerOf}
 use Rattle.announce.specs.Example.{F}
 use Rattle.announce.specs.Example as example
@@ -30,8 +30,9 @@ use Rattle.slot.specs.Slot.{aged}
 use Rattle.hex_line.specs.Hex.{digitOf, upperOf, hexAll, pairsOf, missed}
 use Rattle.lines.specs.Lines.{linesOf}
 use Rattle.log_setup.specs.Start.{setupAt, intervalsAt, startAsked}
-use Rattle.log_call.specs.Call.{frameAsked, stepAsked, decisionAsked}
-use Rattle.log_line.specs.Line.{kindAsked, askedOf, asked}
+use Rattle.log_call.specs.Call.{frameAsked, stepAsked}
+use Rattle.log_decision.specs.Call.{decisionAsked}
+use Rattle.log_asked.specs.Line.{kindAsked, askedOf, asked}
 use Rattle.log_answer.specs.Answer.{textOf}
 use Rattle.logs.specs.Log.{logOf}
 

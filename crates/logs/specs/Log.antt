@@ -17,7 +17,7 @@ use Rattle.stored.specs.Views.{numberAt, statesAt}
 use Rattle.lines.specs.Lines.{linesOf}
 use Rattle.log_answer.specs.declared.Setup.{Setup}
 use Rattle.log_answer.specs.Answer.{Asked, noSetup, stateByte, textOf}
-use Rattle.log_line.specs.Line.{asked}
+use Rattle.log_asked.specs.Line.{asked}
 
 -- a call, on a book
 abbrev pub eventOn : Book ForeignAnnounceMessage → StoreCall → Event ForeignAnnounceMessage

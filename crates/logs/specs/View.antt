@@ -23,8 +23,8 @@ use Rattle.stored.specs.Views.{numberAt, statesAt, call-view, call-answer}
 use Rattle.log_answer.specs.declared.Setup.{Setup}
 use Rattle.log_answer.specs.Answer.{Asked, stateByte, toldOf, textOf, setupOf, storeOf}
 use Rattle.log_setup.specs.Start.{intervalsAt, startAt, setupAt}
-use Rattle.log_line.specs.Line.{asked}
-use Rattle.log_line.specs.Kinds.{Kind, nothing, starting, calling, kinds}
+use Rattle.log_asked.specs.Line.{asked}
+use Rattle.log_asked.specs.Kinds.{Kind, nothing, starting, calling, kinds}
 use Rattle.logs.specs.Log.{eventOn, toldOn, setupOn, bookOn, answersOf}
 
 -- the lines, answered over a store

@@ -18,10 +18,10 @@ use Rattle.hex_line.specs.Hex.{pairsOf, missed}
 use Rattle.log_answer.specs.declared.Setup.{Setup}
 use Rattle.log_answer.specs.declared.Answered.{Answered}
 use Rattle.log_answer.specs.Answer.{Asked, noSetup, toldOf, textOf, setupOf, storeOf, outOf, answeredOf, answerBytes}
-use Rattle.log_line.specs.Line.{askedOf, asked, lineAnswered, lineStore, lineOut, noneAnswered, noneOut}
+use Rattle.log_asked.specs.Line.{askedOf, asked, lineAnswered, lineStore, lineOut, noneAnswered, noneOut}
 use Rattle.log_answer.specs.Steps.{length-text}
-use Rattle.log_piece.specs.Piece.{toldAnswered, toldStore, toldOut}
-use Rattle.log_piece.specs.Steps.{told-fits}
+use Rattle.log_step.specs.Piece.{toldAnswered, toldStore, toldOut}
+use Rattle.log_step.specs.Steps.{told-fits}
 use Rattle.logs.specs.Log.{noBook, logOf}
 use Rattle.logs.specs.View.{storeAnswers, before, log-view}
 

@@ -52,7 +52,7 @@ fn candidate_of(read: CandidateRead) -> Candidate {
 fn chosen(list: [Candidate; 96], n: usize) -> AtOnce {
     AtOnce {
         count: n,
-        best: choice::best_of(list, n),
+        best: find_best::best_of(list, n),
     }
 }
 

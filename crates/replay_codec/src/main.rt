@@ -103,7 +103,7 @@ fn print_header_again(d: DeserializedHeader) {
 // Writes the content again.
 fn print_announce_again(a: AnnounceMessage) {
     let mut target = [UNWRITTEN; CONTENT_SIZE];
-    announce::serialize_content(a, &mut target);
+    announce_writer::serialize_content(a, &mut target);
     print_bytes(&target);
 }
 

@@ -51,7 +51,7 @@ fn answer_choice(s: &[u8]) -> bool {
     if n * CANDIDATE_SIZE != s.len() {
         return false;
     }
-    tokens::print_best(choice::best_of(records::candidates(s, 0, n), n));
+    tokens::print_best(find_best::best_of(records::candidates(s, 0, n), n));
     true
 }
 
@@ -94,7 +94,7 @@ fn end_of(s: &[u8], n: usize, first: usize, port: usize) -> usize
 fn erbest(s: &[u8], first: usize, end: usize) -> BestMessage
     requires { ⌜ (end ≤ 48) × (end * 42 ≤ length (now s)) × (first ≤ end) ⌝ }
 {
-    match choice::best_of(records::candidates(s, first, end), end - first) {
+    match find_best::best_of(records::candidates(s, first, end), end - first) {
         Best::Nothing => BestMessage::Nothing,
         Best::Found(best) => {
             let place = best.place as usize;
@@ -140,7 +140,7 @@ fn print_states(own: InternalDefaultDS, listening: u8, erbests: [BestMessage; 8]
 fn answer_states(own: InternalDefaultDS, listening: u8, s: &[u8], n: usize)
     requires { ⌜ (n ≤ 48) × (n * 42 ≤ length (now s)) ⌝ }
 {
-    tokens::print_best(choice::best_of(records::candidates(s, 0, n), n));
+    tokens::print_best(find_best::best_of(records::candidates(s, 0, n), n));
     print_states(own, listening, erbests(s, n));
 }
 

@@ -110,7 +110,7 @@ fn print_whole_own(own: InternalDefaultDS) {
 fn print_whole_message(message: AnnounceMessage) {
     let mut target = [0u8; TLV_START];
     let tlvs = [0u8; 1];
-    let status = frame::write_frame(message, &tlvs[..0], &mut target);
+    let status = frame_writer::write_frame(message, &tlvs[..0], &mut target);
     if status != 0 {
         replay::print8(status);
     }

@@ -88,7 +88,7 @@ fn answer_tlvs(tlvs: &[u8], buffer: &mut [u8]) -> usize
 
 // Writes the message again. A refusal, which a message that was read has none of, is shown.
 fn answer_again(a: AnnounceMessage, tlvs: &[u8], target: &mut [u8]) {
-    let status = frame::write_frame(a, tlvs, target);
+    let status = frame_writer::write_frame(a, tlvs, target);
     if status != 0 {
         print8(status);
     }

@@ -6,12 +6,12 @@ use libc::STDERR_FILENO;
 use libc::STDIN_FILENO;
 use libc::STDOUT_FILENO;
 use log_answer::Setup;
-use log_piece::Rest;
-use log_piece::Step;
+use log_step::Rest;
+use log_step::Step;
 ghost use Prim.Native.Nat.{_-_, _≤_};
 ghost use lib.ListN.{length};
 ghost use Rattle.log_answer.specs.Answer.{Known};
-ghost use Rattle.log_piece.specs.Piece.{StepWithin, StepKnown};
+ghost use Rattle.log_step.specs.Piece.{StepWithin, StepKnown};
 
 // Where the program stands: what is set up, how many bytes of the unfinished line are kept, how many of the output wait to be written,
 // and whether all writes were done.

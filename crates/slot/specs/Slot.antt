@@ -162,7 +162,7 @@ decode-aged source w age e =
 -- ---- what was stored is loaded
 
 -- the numbers of a header that is written mean that header
-header-back : (h : Header) → header.Whole h
+pub header-back : (h : Header) → header.Whole h
     → headerOf (h .«sdo_id» / 256 * 16 + 11) (h .version .minor * 16 + h .version .major) (h .«domain_number») (h .«sdo_id» % 256) (pack (bits6 h)) (pack (bits7 h))
     (ofZ w64 (h .«correction_field»)) (h .«source_port_identity») (h .«sequence_id») (ofZ w8 (h .«log_message_interval»))
     ≡ h
@@ -173,7 +173,7 @@ header-back h w =
     ap (λ (x : header.Wired). x .header) (header.meaning wired valid)
 
 -- and so do those of a content
-content-back : (a : AnnounceMessage) → announce.Whole a
+pub content-back : (a : AnnounceMessage) → announce.Whole a
     → announceOf (a .header) (a .«origin_timestamp» .seconds) (a .«origin_timestamp» .nanos) (ofZ w16 (a .«current_utc_offset»)) (a .«grandmaster_priority_1»)
     (a .«grandmaster_clock_quality» .«clock_class») (a .«grandmaster_clock_quality» .«clock_accuracy»)
     (a .«grandmaster_clock_quality» .«offset_scaled_log_variance») (a .«grandmaster_priority_2») (a .«grandmaster_identity»)

@@ -1,4 +1,3 @@
 -- The definitions and laws of reading TLVs.
 pub mod Tlv
 pub mod Laws
-pub mod Lines

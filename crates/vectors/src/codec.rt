@@ -7,7 +7,7 @@ use announce::AnnounceRead;
 use header::DeserializedHeader;
 use header::Header;
 use header::HeaderRead;
-use header::MessageType;
+use message_type::MessageType;
 
 // Writes a header into the first bytes of the target: the answer, or 255 where the target is shorter.
 pub fn write_header(
@@ -32,7 +32,7 @@ pub fn write_content(a: AnnounceMessage, target: &mut [u8], size: usize) -> u8 {
         return 255;
     }
     let end = 34 + size;
-    announce::serialize_content(a, &mut target[34..end])
+    announce_writer::serialize_content(a, &mut target[34..end])
 }
 
 // Whether a message, written over a content of 30 bytes into a target of 70 bytes of one value, gives these bytes

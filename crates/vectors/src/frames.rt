@@ -3,9 +3,9 @@ use announce::AnnounceMessage;
 use announce::ClockQuality;
 use announce::WireTimestamp;
 use header::Header;
-use header::MessageType;
 use header::PortIdentity;
 use header::PtpVersion;
+use message_type::MessageType;
 
 // F(1). A line each: the bytes up to the flags; the correction; zero; the source; sequence, control and interval; the origin;
 // UTC offset, reserved byte and priority 1; quality and priority 2; the grandmaster; steps removed and time source.

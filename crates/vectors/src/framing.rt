@@ -47,7 +47,7 @@ pub fn write(a: AnnounceMessage, tlvs: &[u8], target: &mut [u8], size: usize) ->
     if target.len() < size {
         return 255;
     }
-    frame::write_frame(a, tlvs, &mut target[0..size])
+    frame_writer::write_frame(a, tlvs, &mut target[0..size])
 }
 
 // Reads a frame and writes it again with its TLVs: the answer, or that of the reader.
@@ -63,7 +63,7 @@ pub fn rewrite(s: &[u8], target: &mut [u8]) -> u8 {
             if end < start {
                 return 255;
             }
-            frame::write_frame(a, &s[start..end], target)
+            frame_writer::write_frame(a, &s[start..end], target)
         }
         FrameRead::Refused(n) => n,
     }

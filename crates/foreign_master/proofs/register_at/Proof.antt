@@ -1,7 +1,7 @@
 -- `foreign_master::register_at` meets its contract. Assumes nothing.
 use mathlib.Core.Path.{_≡_, sym, ap, _∙_}
 use denote.Ref.{now}
-use Rattle.admission.specs.Refusal.{refusalIn}
+use Rattle.refusal.specs.Refusal.{refusalIn}
 use Rattle.admission.specs.StoreView.{room-there}
 use Rattle.foreign_master.specs.declared.Answer.the-variants.{Done}
 use Rattle.foreign_master.specs.Calls.{heldOf}

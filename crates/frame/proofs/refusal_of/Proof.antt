@@ -2,8 +2,8 @@
 -- Assumes nothing.
 use mathlib.Core.Path.{_≡_, sym, _∙_}
 use borrow.Author.Needs.{needs}
-use Rattle.header.specs.declared.TypeRead.the-variants.{Known}
-use Rattle.header.specs.Types.{typeOf}
+use Rattle.message_type.specs.declared.TypeRead.the-variants.{Known}
+use Rattle.message_type.specs.Types.{typeOf}
 use Rattle.frame.specs.Laws.{refused-2, refused-3, refused-1, refused-5, refused-short, passed}
 use Rattle.frame.proofs.refusal_of.Statement.{statement}
 use Rattle.frame.proofs.refusal_of.Tie as tie

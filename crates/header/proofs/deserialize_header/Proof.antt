@@ -4,7 +4,7 @@ use mathlib.Core.Path.{sym, ap, _∙_}
 use borrow.Author.Needs.{needs}
 use Prim.Native.Nat.{ℕ, _%_}
 use denote.Ref.{now}
-use Rattle.header.specs.Types.{typeOf}
+use Rattle.message_type.specs.Types.{typeOf}
 use Rattle.header.specs.Laws.{read-1, read-2, read-0}
 use Rattle.header.proofs.deserialize_header.Statement.{statement}
 use Rattle.header.proofs.deserialize_header.Tie as tie

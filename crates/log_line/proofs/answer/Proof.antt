@@ -3,7 +3,7 @@ use mathlib.Core.Path.{refl}
 use denote.Ref.{now}
 use borrow.Author.Needs.{needs}
 use Rattle.log_answer.specs.Steps.{answers-by, shapeless-told}
-use Rattle.log_line.specs.Steps.{empty-line, kind-0, before-setup, kinds}
+use Rattle.log_asked.specs.Steps.{empty-line, kind-0, before-setup, kinds}
 use Rattle.log_line.proofs.answer.Statement.{statement}
 use Rattle.log_line.proofs.answer.Tie as tie
 

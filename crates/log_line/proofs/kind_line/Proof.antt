@@ -3,7 +3,7 @@ use mathlib.Core.Path.{refl}
 use denote.Ref.{now}
 use borrow.Author.Needs.{needs}
 use Rattle.log_answer.specs.Steps.{answers-by, shapeless-told}
-use Rattle.log_line.specs.Steps.{kind-1, kind-2, kind-3, kind-other}
+use Rattle.log_asked.specs.Steps.{kind-1, kind-2, kind-3, kind-other}
 use Rattle.log_line.proofs.kind_line.Statement.{statement}
 use Rattle.log_line.proofs.kind_line.Tie as tie
 

@@ -1,7 +1,7 @@
 -- `log_line::line_checked` meets its contract. Assumes nothing.
 use denote.Ref.{now}
 use borrow.Author.Needs.{needs}
-use Rattle.log_line.specs.Steps.{no-room, room}
+use Rattle.log_asked.specs.Steps.{no-room, room}
 use Rattle.log_line.proofs.line_checked.Statement.{statement}
 use Rattle.log_line.proofs.line_checked.Tie as tie
 

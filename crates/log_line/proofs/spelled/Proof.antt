@@ -7,9 +7,9 @@ use lib.Seq.{length-take-le}
 use borrow.Author.Needs.{needs}
 use Rattle.hex_line.specs.Hex.{decodedOf}
 use Rattle.hex_line.specs.HexLaws.{decoded-fits}
-use Rattle.log_line.specs.Line.{askedOf}
+use Rattle.log_asked.specs.Line.{askedOf}
 use Rattle.log_answer.specs.Steps.{answers-by, shapeless-told}
-use Rattle.log_line.specs.Steps.{bad-asked, good-asked, good-bytes}
+use Rattle.log_asked.specs.Steps.{bad-asked, good-asked, good-bytes}
 use Rattle.log_line.proofs.spelled.Statement.{statement}
 use Rattle.log_line.proofs.spelled.Tie as tie
 

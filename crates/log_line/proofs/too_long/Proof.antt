@@ -1,6 +1,6 @@
 -- `log_line::too_long` meets its contract. Assumes nothing.
 use borrow.Author.Needs.{needs}
-use Rattle.log_line.specs.Steps.{none-room, none-told}
+use Rattle.log_asked.specs.Steps.{none-room, none-told}
 use Rattle.log_line.proofs.too_long.Statement.{statement}
 use Rattle.log_line.proofs.too_long.Tie as tie
 

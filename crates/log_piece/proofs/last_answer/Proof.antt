@@ -2,7 +2,7 @@
 use mathlib.Core.Path.{sym, _∙_}
 use denote.Ref.{now}
 use borrow.Author.Needs.{needs}
-use Rattle.log_piece.specs.Steps.{line-rest, long-rest, none-rest}
+use Rattle.log_step.specs.Steps.{line-rest, long-rest, none-rest}
 use Rattle.log_piece.proofs.last_answer.Statement.{statement}
 use Rattle.log_piece.proofs.last_answer.Tie as tie
 

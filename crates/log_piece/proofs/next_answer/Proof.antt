@@ -4,7 +4,7 @@ use denote.Ref.{now}
 use borrow.Author.Needs.{needs}
 use lib.ListN.{length}
 use Rattle.lines.specs.Lines.{nextLine}
-use Rattle.log_piece.specs.Steps.{next-stands, line-step, long-step, taken-step}
+use Rattle.log_step.specs.Steps.{next-stands, line-step, long-step, taken-step}
 use Rattle.log_piece.proofs.next_answer.Statement.{statement}
 use Rattle.log_piece.proofs.next_answer.Tie as tie
 

@@ -1,7 +1,7 @@
 -- `replay_messages::answer_frame` is safe: the TLVs of a message are within its frame. Assumes nothing.
 use mathlib.Core.Path.{sym, _∙_}
 use borrow.Author.Needs.{needs}
-use Rattle.frame.specs.Accepted.{tlvs-within}
+use Rattle.frame_laws.specs.Accepted.{tlvs-within}
 use Rattle.replay_messages.proofs.answer_frame.Statement.{statement}
 use Rattle.replay_messages.proofs.answer_frame.Tie as tie
 

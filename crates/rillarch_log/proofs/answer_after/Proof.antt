@@ -6,8 +6,8 @@ use denote.Ref.{now}
 use lib.ListN.{length, take, drop, length-drop}
 use lib.Seq.{length-take-le}
 use Rattle.lines.specs.Lines.{nextLine}
-use Rattle.log_piece.specs.Piece.{StepWithin}
-use Rattle.log_piece.specs.Steps.{step-known}
+use Rattle.log_step.specs.Piece.{StepWithin}
+use Rattle.log_step.specs.Steps.{step-known}
 use borrow.Author.Needs.{needs}
 use Rattle.rillarch_log.proofs.answer_after.Statement.{statement}
 use Rattle.rillarch_log.proofs.answer_after.Tie as tie

@@ -1,0 +1,3 @@
+-- The definitions and laws of frames that are written.
+pub mod Frame
+pub mod Laws

@@ -1,0 +1,3 @@
+-- The definitions of the line `03` of the log, and the laws for its code.
+pub mod Call
+pub mod Steps

@@ -1,0 +1,2 @@
+-- The definitions and laws of message types.
+pub mod Types

@@ -1,0 +1,2 @@
+-- The definitions of the refusals.
+pub mod Refusal

@@ -1,0 +1,2 @@
+-- The definitions of the verdict.
+pub mod Verdict
