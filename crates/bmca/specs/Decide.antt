@@ -1,6 +1,6 @@
 -- What a decision answers, and every word of the store afterwards. A refusal changes no word.
 -- Assumes nothing.
-use Prim.Native.Nat.{ℕ, zero, suc, _+_, _≤_, _<_}
+use Prim.Native.Nat.{ℕ, zero, suc, _+_}
 use mathlib.Core.List.{List, [], _∷_, _++_}
 use mathlib.Core.Option.{Option, none, some}
 use lib.ListN.{length, take, drop, getD}
@@ -15,11 +15,9 @@ use Rattle.slot.specs.Blocks.{block}
 use Rattle.slot.specs.declared.ForeignAnnounceMessage.{ForeignAnnounceMessage}
 use Rattle.history.specs.Port.{Turn}
 use Rattle.history.specs.Book.{Book, Call, decide, turns, statesOf}
-use Rattle.book.specs.Below.{tab}
 use Rattle.book.specs.Each.{eachTo}
 use Rattle.book.specs.Layout.{headWords, portWords, portAt, identity, bookOf, reads}
 use Rattle.book.specs.Rules.{storeRefusal}
-use Rattle.offers.specs.Offers.{masterIn}
 use Rattle.erbest.specs.Place.{winnerPlace, bestIn}
 use Rattle.consumption.specs.Consume.{consumedIn, goneIn}
 use Rattle.foreign_master.specs.declared.Tallies.{Tallies}
@@ -81,10 +79,6 @@ gonePort p = goneIn (winnerPlace p) p
 abbrev pub erbestOf : PortIdentity → List ℕ → Option BestAnnounceMessage
 erbestOf r p = bestIn r p (winnerPlace p)
 
--- each master of a port holds a message
-abbrev pub SomeHeld : List ℕ → Type 0
-SomeHeld p = (i : ℕ) → i < getD p 1 0 → 1 ≤ getD (masterIn p i) 3 0
-
 -- the first n ports decided
 abbrev pub decidedTo : ℕ → List ℕ → List ℕ
 decidedTo n s = eachTo headWords portWords decidedPort n s
@@ -101,15 +95,9 @@ decidedStore s = decidedTo (getD s 0 0) s
 unfoldable pub goneStore : List ℕ → ℕ
 goneStore s = goneTo (getD s 0 0) s
 
--- the Erbests of all ports, port 1 first, over eight of none
+-- the Erbest of port q
 abbrev pub erbestAt : List ℕ → ℕ → Option BestAnnounceMessage
 erbestAt s q = erbestOf (identity (getD s 1 0) (1 + q)) (block s (portAt q) portWords)
-
-abbrev pub nones : List (Option BestAnnounceMessage)
-nones = none ∷ none ∷ none ∷ none ∷ none ∷ none ∷ none ∷ none ∷ []
-
-unfoldable pub erbestsOf : List ℕ → List (Option BestAnnounceMessage)
-erbestsOf s = tab (getD s 0 0) (erbestAt s) ++ drop (getD s 0 0) nones
 
 -- the words where the store is refused are as they were
 unfoldable pub decideExit : List ℕ → List ℕ

@@ -10,15 +10,17 @@ use Rattle.slot.specs.Blocks.{block, length-block}
 use Rattle.book.specs.Each.{Treated, treated}
 use Rattle.book.specs.Layout.{portWords, headWords, storeWords, portAt}
 use Rattle.book.specs.Rules.{soundWords, held, master-held}
+use Rattle.offers.specs.Offers.{masterIn}
 use Rattle.consumption.specs.View.{length-consumedIn}
-use Rattle.bmca.specs.Decide.{SomeHeld, decidedPort, decidedTo, decidedStore}
+use Rattle.bmca.specs.Decide.{decidedPort, decidedTo, decidedStore}
 
 -- what holds of t after the first n ports of s have been decided
 abbrev pub DecidedTo : List ℕ → ℕ → List ℕ → Type 0
 DecidedTo s n t = Treated headWords portWords decidedPort (getD s 0 0) s n t
 
 -- what soundness says of a port's masters
-pub some-held : (s : List ℕ) → soundWords s ≡ true → (q : ℕ) → q < getD s 0 0 → SomeHeld (block s (portAt q) portWords)
+pub some-held : (s : List ℕ) → soundWords s ≡ true → (q : ℕ) → q < getD s 0 0 → (i : ℕ) → i < getD (block s (portAt q) portWords) 1 0
+    → 1 ≤ getD (masterIn (block s (portAt q) portWords) i) 3 0
 some-held s sound q h i l = master-held s sound q h i l .some
 
 module _ (s : List ℕ) (room : storeWords ≤ length s) (sound : soundWords s ≡ true) where
