@@ -9,7 +9,7 @@ use Rattle.compare.proofs.ComparisonDataset.compare.Reads as compare
 use Rattle.choice.specs.declared.Candidate.{Candidate}
 use Rattle.choice.specs.declared.Best.{Best}
 use Rattle.choice.specs.Candidate.{winner, itself, bestOf}
-use Rattle.choice.proofs.best_of.Reads as best-of
+use Rattle.find_best.proofs.best_of.Reads as best-of
 use Rattle.decision.specs.declared.BestMessage.{BestMessage}
 use Rattle.decision.specs.declared.BestMessage.the-variants.{Nothing, Found}
 use Rattle.decision.specs.State.{optionOf}

@@ -1,11 +1,11 @@
 -- Reading and writing: headers, announces, TLVs, frames.
 -- Assumes nothing.
 use denote.Ref.{now}
-use Rattle.header.proofs.MessageType.try_from.Reads as try-from
+use Rattle.message_type.proofs.MessageType.try_from.Reads as try-from
 use Rattle.header.proofs.deserialize_header.Reads as deserialize-header
 use Rattle.header_writer.proofs.serialize_header.Reads as serialize-header
 use Rattle.announce.proofs.deserialize_content.Reads as deserialize-content
-use Rattle.announce.proofs.serialize_content.Reads as serialize-content
+use Rattle.announce_writer.proofs.serialize_content.Reads as serialize-content
 use Rattle.tlv.proofs.TlvCursor.next.Reads as next
 use Rattle.tlv.proofs.check.Reads as check
 use Rattle.tlv_type.proofs.TlvType.from_primitive.Reads as from-primitive
@@ -15,7 +15,7 @@ use Rattle.tlv_builder.proofs.write_entry.Reads as write-entry
 use Rattle.tlv_builder.proofs.TlvSetBuilder.add.Reads as add
 use Rattle.tlv_set.proofs.list_entry.Reads as list-entry
 use Rattle.frame.proofs.read_frame.Reads as read-frame
-use Rattle.frame.proofs.write_frame.Reads as write-frame
+use Rattle.frame_writer.proofs.write_frame.Reads as write-frame
 use Rattle.unique.specs.Once.{OneAnswer, OneAnswerAndExit, alike}
 
 pub type-read : OneAnswer try-from.Learnt

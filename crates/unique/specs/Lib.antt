@@ -3,4 +3,5 @@ pub mod Once
 pub mod Codec
 pub mod Choice
 pub mod Store
+pub mod Linked
 pub mod Log

@@ -1,4 +1,4 @@
--- The calls over a store, and those for a program in C.
+-- The calls over a store.
 -- Assumes nothing.
 use denote.Ref.{now}
 use Rattle.book.proofs.check.Reads as check
@@ -7,8 +7,6 @@ use Rattle.foreign_master.proofs.register_announce_message.Reads as register-an
 use Rattle.foreign_master.proofs.step_age.Reads as step-age
 use Rattle.bmca.proofs.decide.Reads as decide
 use Rattle.candidates.proofs.candidate.Reads as candidate
-use Rattle.rillarch.proofs.rillarch_check.Reads as rillarch-check
-use Rattle.rillarch.proofs.rillarch_decide.Reads as rillarch-decide
 use Rattle.unique.specs.Once.{OneAnswer, OneAnswerAndExit, alike}
 
 pub checked : OneAnswer check.Learnt
@@ -28,13 +26,3 @@ decided κs a z z′ e e′ p q = (alike (p .0) (q .0), alike (p .1) (q .1))
 
 pub candidate-told : OneAnswer candidate.Learnt
 candidate-told κs a z z′ e e′ p q = alike p q
-
-pub checked-in-c : OneAnswer rillarch-check.Learnt
-checked-in-c κs a z z′ e e′ p q = alike p q
-
--- the words of the answer, and those of the store
-pub decided-in-c : OneAnswerAndExit rillarch-decide.Learnt (λ κs e. now (e .1 .1 .1 .1 .1 .1 .1 .0))
-decided-in-c κs a z z′ e e′ p q = (alike (p .0) (q .0), alike (p .1 .0) (q .1 .0))
-
-pub store-in-c : OneAnswerAndExit rillarch-decide.Learnt (λ κs e. now (e .0))
-store-in-c κs a z z′ e e′ p q = (alike (p .0) (q .0), alike (p .1 .1) (q .1 .1))

@@ -1,0 +1,3 @@
+-- The words of what the calls answer.
+pub mod Answers
+pub mod Laws
