@@ -1,4 +1,6 @@
 // A message taken into the book, after register_announce_message of bmc/foreign_master.rs: the words then.
+#![tactic(auto)]
+
 ghost use Rattle.std.specs.Prelude.{◌≡◌, true, ◌<◌, ◌≤◌, length, get_or};
 ghost use Rattle.slot.specs.Blocks.{block};
 ghost use Rattle.slot.specs.Slot.{Narrow};

@@ -1,4 +1,6 @@
 // Ageing of a book: every message older, the stale ones let go and counted, empty masters squeezed out.
+#![tactic(auto)]
+
 ghost use Rattle.std.specs.Prelude.{◌≡◌, ◌+◌, ◌*◌, ◌^◌, ◌<◌, ◌≤◌, true, length, slice_index};
 ghost use Rattle.wire.specs.Be.{put};
 ghost use Rattle.slot.specs.Blocks.{block};

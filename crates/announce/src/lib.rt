@@ -1,4 +1,6 @@
 // The announce message, after messages/announce.rs, common/timestamp.rs and common/clock_quality.rs: its content is 30 bytes after the header.
+#![tactic(auto)]
+
 ghost use Rattle.std.specs.Prelude.{◌≡◌, ◌+◌, ◌≤◌, length};
 ghost use Rattle.announce.specs.Wire.{announce_of, content_at, read_content};
 

@@ -1,4 +1,6 @@
 // An announce with its header as words at fixed places, one a field, each the unsigned number that the field has on the wire.
+#![tactic(auto)]
+
 ghost use Rattle.std.specs.Prelude.{◌≡◌, ◌+◌, ◌≤◌, length};
 ghost use Rattle.wire.specs.Be.{put};
 ghost use Rattle.announce_words.specs.Words.{announce_size, announce_words, fits_fields, announce_refusal, announce_in};

@@ -1,4 +1,6 @@
 // Writing the content of an announce message, after messages/announce.rs: its 30 bytes, by the definitions of the crate announce.
+#![tactic(auto)]
+
 ghost use Rattle.std.specs.Prelude.{◌≡◌, ◌+◌, ◌≤◌, length};
 ghost use Rattle.std.specs.Int.{w16};
 ghost use Rattle.std.proofs.Common.{of_z};

@@ -1,5 +1,7 @@
 // What the calls answer, as words at the places that include/rillarch.h names: the result is paper 01's number, and a refusal writes
 // nothing.
+#![tactic(auto)]
+
 ghost use Rattle.std.specs.Prelude.{◌≡◌, ◌+◌, ◌≤◌, length};
 ghost use Rattle.wire.specs.Be.{put};
 ghost use Rattle.answers.specs.Answers.{

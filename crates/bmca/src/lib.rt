@@ -1,5 +1,7 @@
 // The decision over a lent store, after bmc/bmca.rs: each port's Erbest, Ebest, a recommended state a port, and what is consumed. `decide`
 // asks nothing of what it is lent; a refusal changes no word.
+#![tactic(auto)]
+
 ghost use Rattle.std.specs.Prelude.{◌≡◌, true, ◌+◌, ◌<◌, ◌≤◌, length, get_or};
 ghost use Rattle.decision.specs.State.{option_of};
 ghost use Rattle.recommend.specs.Number.{shown, carrying_best};

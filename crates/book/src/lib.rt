@@ -1,4 +1,6 @@
 // The check that a store holds a sound book, and the layout of the store for those who stand on it.
+#![tactic(auto)]
+
 ghost use Rattle.std.specs.Prelude.{◌≡◌, ◌<◌, ◌≤◌, ◌^◌, length, get_or};
 ghost use Rattle.history.specs.Rules.{masters_max, messages_max, listed_max};
 ghost use Rattle.history.specs.Sound.{holdable, follows};

@@ -1,4 +1,6 @@
 // A candidate as words at fixed places, and the choice over a list of such.
+#![tactic(auto)]
+
 ghost use Rattle.std.specs.Prelude.{◌≡◌, ◌+◌, ◌*◌, ◌≤◌, length};
 ghost use Rattle.wire.specs.Be.{put};
 ghost use Rattle.choice.specs.Candidate.{best_of, winner, itself};

@@ -1,5 +1,7 @@
 // The candidates of a book, one at a time and by value, so that a caller can lay them into a list of its own for the single choice.
 // The call asks nothing of what it is lent and changes no word.
+#![tactic(auto)]
+
 ghost use Rattle.std.specs.Prelude.{◌≡◌, true, ◌<◌, ◌≤◌, length, get_or};
 ghost use Rattle.std.proofs.Math.ListN.{get_elem?};
 ghost use Rattle.choice.specs.Candidate.{candidate_of};

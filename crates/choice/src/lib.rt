@@ -1,4 +1,6 @@
 // The choice among offered messages, after bmc/bmca.rs (BestAnnounceMessage): which of two stays.
+#![tactic(auto)]
+
 ghost use Rattle.std.specs.Prelude.{◌≡◌};
 ghost use Rattle.compare.specs.Dataset.{compare_of};
 ghost use Rattle.choice.specs.Candidate.{candidate_of, dataset_of, ranking, stays, keep_best};

@@ -1,5 +1,7 @@
 // Runs the calls of header and announce over cases whose answers paper 01 gives, and writes for each group how many cases it
 // has and how many are wrong.
+#![tactic(auto)]
+
 mod lengths;
 mod reading;
 mod types;

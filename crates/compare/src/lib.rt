@@ -1,4 +1,6 @@
 // The data set comparison of IEEE 1588-2019, 9.3.4 (figures 34 and 35), after bmc/dataset_comparison.rs and datasets/default.rs.
+#![tactic(auto)]
+
 ghost use Rattle.std.specs.Prelude.{◌≡◌};
 ghost use Rattle.order.specs.Order.{cmp, lex};
 ghost use Rattle.compare.specs.Dataset.{of_announce, of_own, by_topology, nearer_by, farther_by, topology_row, figure34, figure35, compare_of};

@@ -1,4 +1,6 @@
 // Consumption: after a decision on a port the winner's list stays as it was, and every other offered message is consumed.
+#![tactic(auto)]
+
 ghost use Rattle.std.specs.Prelude.{◌≡◌, ◌<◌, ◌≤◌, length, get_or};
 ghost use Rattle.history.specs.Rules.{masters_max};
 ghost use Rattle.book.specs.Layout.{master_words, port_words};

@@ -1,5 +1,7 @@
 // Runs the calls on stores that are too short, and on full books of which one word is changed, and writes for each group how many cases it
 // has and how many are wrong: 1 comes first, and 16 is right exactly where a book is unsound.
+#![tactic(auto)]
+
 mod decisions;
 mod short;
 

@@ -1,4 +1,6 @@
 // The state decision of IEEE 1588-2019, 9.3.3 (figure 33), after bmc/bmca.rs.
+#![tactic(auto)]
+
 ghost use Rattle.std.specs.Prelude.{◌≡◌};
 ghost use Rattle.decision.specs.State.{option_of, same_best, compare_d0, global_and_port, low_class, high_class, by_class, state_of};
 ghost use Rattle.decision.specs.Answer.{number_of};

@@ -1,4 +1,6 @@
 // The choice of a port's Erbest, on the places of its masters and the words of the store.
+#![tactic(auto)]
+
 ghost use Rattle.std.specs.Prelude.{◌≡◌, ◌<◌, ◌≤◌, length, get_or};
 ghost use Rattle.decision.specs.State.{option_of};
 ghost use Rattle.history.specs.Rules.{masters_max};

@@ -1,4 +1,6 @@
 // The choice over a list, after bmc/bmca.rs (find_best_announce_message).
+#![tactic(auto)]
+
 ghost use Rattle.std.specs.Prelude.{◌≡◌, ◌≤◌, take};
 ghost use Rattle.choice.specs.Candidate.{best_of, winner, itself};
 

@@ -1,5 +1,7 @@
 // The calls on a lent store that change its lists, after bmc/foreign_master.rs: a fresh start, a registration, ageing. Each asks
 // nothing of what it is lent; a refusal changes no word.
+#![tactic(auto)]
+
 ghost use Rattle.std.specs.Prelude.{◌≡◌, true, ◌<◌, ◌≤◌, length, get_or};
 ghost use Rattle.slot.specs.Slot.{Narrow};
 ghost use Rattle.book.specs.Layout.{store_words};

@@ -1,4 +1,6 @@
 // A whole message, after messages/mod.rs: any bytes read as a frame.
+#![tactic(auto)]
+
 ghost use Rattle.std.specs.Prelude.{◌≡◌};
 ghost use Rattle.frame.specs.Frame.{refusal_of, frame_refusal, read_frame};
 

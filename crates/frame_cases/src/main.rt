@@ -1,5 +1,7 @@
 // Runs the reader of frames, and the writer on what was read, over cases whose answers paper 01 gives, and writes for each group
 // how many cases it has and how many are wrong.
+#![tactic(auto)]
+
 mod again;
 mod large;
 mod lengths;

@@ -1,4 +1,6 @@
 // Writing a whole message, after messages/mod.rs: an announce with its TLVs as one frame.
+#![tactic(auto)]
+
 ghost use Rattle.std.specs.Prelude.{◌≡◌, ◌+◌, ◌≤◌, length};
 ghost use Rattle.frame_writer.specs.Frame.{fits_of, with_frame, write_answer, write_exit};
 

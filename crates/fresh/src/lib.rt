@@ -1,4 +1,6 @@
 // A fresh start: when it is taken, and the words of a book that holds nothing yet.
+#![tactic(auto)]
+
 ghost use Rattle.std.specs.Prelude.{◌≡◌, ◌≤◌, length, get_or};
 ghost use Rattle.history.specs.Rules.{interval_right};
 ghost use Rattle.history.specs.Sound.{startable};

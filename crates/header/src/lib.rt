@@ -1,4 +1,6 @@
 // The common header of a PTP message, after messages/header.rs and common/port_identity.rs: its reader.
+#![tactic(auto)]
+
 ghost use Rattle.std.specs.Prelude.{◌≡◌, ◌+◌, ◌≤◌, length};
 ghost use Rattle.header.specs.Wire.{port_identity_at, header_of, header_at, read_header};
 

@@ -1,4 +1,6 @@
 // Writing the common header, after messages/header.rs: its 34 bytes, by the definitions of the crate header.
+#![tactic(auto)]
+
 ghost use Rattle.std.specs.Prelude.{◌≡◌, ◌≤◌, length};
 ghost use Rattle.std.specs.Int.{w8, w64};
 ghost use Rattle.std.proofs.Common.{of_z};

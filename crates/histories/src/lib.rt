@@ -1,1 +1,2 @@
 // Any number of calls on a book, one after the other: definitions and laws (specs/). There is no code.
+#![tactic(auto)]

@@ -1,4 +1,6 @@
 // The book as lists and what the calls do to it: definitions in specs/. The code is the numbers of its rules and the sequence rule.
+#![tactic(auto)]
+
 ghost use Rattle.std.specs.Prelude.{◌≡◌, ◌<◌};
 ghost use Rattle.history.specs.Rules.{in_step};
 

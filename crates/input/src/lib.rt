@@ -1,5 +1,7 @@
 // A program's standard input, a line at a time. No contract can say what a C call read, so the contracts here say only bounds; what is cut
 // out of a block once it is read is said by the crate lines.
+#![tactic(auto)]
+
 ghost use Rattle.std.specs.Prelude.{◌≤◌, length};
 ghost use Rattle.lines.specs.Lines.{CutWithin};
 ghost use Rattle.input.specs.Within.{NextWithin};

@@ -1,4 +1,6 @@
 // The number by which programs print the name of a TLV's kind: its place among the names, and 0 where a kind has none.
+#![tactic(auto)]
+
 use tlv_type::TlvType;
 
 pub fn name_code(kind: TlvType) -> u8 {

@@ -1,4 +1,6 @@
 // Words at fixed places of a lent slice: a run of them written, and a run of them held against limits.
+#![tactic(auto)]
+
 ghost use Rattle.std.specs.Prelude.{◌≡◌, ◌+◌, ◌≤◌, length};
 ghost use Rattle.wire.specs.Be.{put};
 ghost use Rattle.lent.specs.Words.{all_within};

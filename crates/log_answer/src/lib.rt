@@ -1,4 +1,6 @@
 // What a line of the log answers: what is set up afterwards, and the text of the answer.
+#![tactic(auto)]
+
 ghost use Rattle.std.specs.Prelude.{◌≡◌, [], ◌∷◌, map, ◌≤◌, length, take};
 ghost use Rattle.std.proofs.lemmas.List.Edits.{sets};
 ghost use Rattle.log_answer.specs.Answer.{answer_bytes, no_setup, state_byte, text_of, states_text};

@@ -1,4 +1,6 @@
 // The lines `01` and `02` of the log: a frame and a step, over a store whose check has answered.
+#![tactic(auto)]
+
 ghost use Rattle.std.specs.Prelude.{◌≡◌, ◌≤◌, length};
 ghost use Rattle.book.specs.Rules.{store_refusal};
 ghost use Rattle.foreign_master.specs.Calls.{answer_of};

@@ -1,4 +1,6 @@
 // The line `03` of the log: a decision, over a store whose check has answered.
+#![tactic(auto)]
+
 ghost use Rattle.std.specs.Prelude.{◌≡◌, ◌/◌, ◌^◌, ◌≤◌, length};
 ghost use Rattle.std.proofs.Math.Option.{some};
 ghost use Rattle.book.specs.Rules.{store_refusal};

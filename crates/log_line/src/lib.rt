@@ -1,4 +1,6 @@
 // One line of the log program: hexadecimal digits in, the line of its answer out. `log_line` asks nothing of what it is lent.
+#![tactic(auto)]
+
 ghost use Rattle.std.specs.Prelude.{◌≡◌, ◌≤◌, length};
 ghost use Rattle.book.specs.Rules.{store_refusal};
 ghost use Rattle.log_answer.specs.Answer.{answer_bytes, Known, Answers};

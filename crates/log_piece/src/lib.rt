@@ -1,5 +1,7 @@
 // The log program's input as it arrives, in pieces: the next line that ends in a piece, cut and answered. The calls ask that the store is
 // sound once something is set up, and leave it so, so that no line has to check it.
+#![tactic(auto)]
+
 ghost use Rattle.std.specs.Prelude.{◌≡◌, ◌≤◌, length, take};
 ghost use Rattle.lines.specs.Lines.{next_line, kept_of, last_of};
 ghost use Rattle.log_answer.specs.Answer.{Known};

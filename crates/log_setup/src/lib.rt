@@ -1,4 +1,6 @@
 // A line `00` of the log: a fresh start, and what is set up.
+#![tactic(auto)]
+
 ghost use Rattle.std.specs.Prelude.{◌≡◌, ◌+◌, ◌*◌, ◌≤◌, length, take, get_or};
 ghost use Rattle.stored.specs.Calls.{exit_of, number_of};
 ghost use Rattle.log_answer.specs.Answer.{answer_bytes, Answers};

@@ -1,4 +1,6 @@
 // What a call on a piece of the log, and the end of the log, find and answer: the types, and what they say (specs/). There is no other code.
+#![tactic(auto)]
+
 use log_answer::Answered;
 
 // What a call on a piece finds: a line, which is answered, and the place after its LF; or no LF, and how many bytes of the unfinished

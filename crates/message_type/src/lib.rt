@@ -1,4 +1,6 @@
 // The types of PTP messages, after messages/mod.rs and messages/control_field.rs: their numbers, and the control field of each.
+#![tactic(auto)]
+
 ghost use Rattle.std.specs.Prelude.{◌≡◌, ◌≤◌};
 ghost use Rattle.message_type.specs.Types.{type_of, type_number, control_of};
 

@@ -1,4 +1,6 @@
 // What the masters of a port offer, on the words of the store: a master with two messages or more its newest.
+#![tactic(auto)]
+
 ghost use Rattle.std.specs.Prelude.{◌≡◌, ◌<◌, ◌≤◌, length, get_or};
 ghost use Rattle.history.specs.Rules.{masters_max};
 ghost use Rattle.history.specs.Port.{best_of};

@@ -1,5 +1,7 @@
 // A port's recommended state in two steps: its number, by the candidates of Ebest and of the port in the place of whole messages; then
 // the state, which carries at most one message.
+#![tactic(auto)]
+
 ghost use Rattle.std.specs.Prelude.{◌≡◌};
 ghost use Rattle.decision.specs.State.{low};
 ghost use Rattle.recommend.specs.Number.{keep_next, own_below, low_number, against_number, high_number, stays_as, number_by, of_port, carrying};

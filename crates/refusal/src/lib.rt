@@ -1,4 +1,6 @@
 // Whether a message is taken into the book, after register_announce_message of bmc/foreign_master.rs: the refusals, in their order.
+#![tactic(auto)]
+
 ghost use Rattle.std.specs.Prelude.{◌≡◌, true, ◌<◌, ◌≤◌, length, get_or};
 ghost use Rattle.slot.specs.Blocks.{block};
 ghost use Rattle.history.specs.Rules.{masters_max, listed_max};

@@ -1,4 +1,6 @@
 // What programs that answer recorded lines share: the next line of the input as bytes, and the tokens of an answer.
+#![tactic(auto)]
+
 ghost use Rattle.std.specs.Prelude.{◌≤◌, length};
 ghost use Rattle.replay.specs.Within.{NextWithin};
 

@@ -1,5 +1,7 @@
 // Answers each line of the input, a fresh start, a frame, a step of age, the wish to see the book or a decision, in hexadecimal digits: the
 // lines of the oracle's subcommand books.
+#![tactic(auto)]
+
 mod at_once;
 mod decided;
 mod told;

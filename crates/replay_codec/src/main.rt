@@ -1,5 +1,7 @@
 // Answers each line of the input, a frame in hexadecimal digits, with what the codec reads from the frame and what it writes of that again:
 // the lines of the oracle's subcommand codec.
+#![tactic(auto)]
+
 ghost use Rattle.std.specs.Prelude.{◌≤◌, length};
 
 use announce::{AnnounceMessage, AnnounceRead, CONTENT_SIZE};

@@ -1,5 +1,7 @@
 // Answers each line of the input, a comparison, a choice or a decision in hexadecimal digits: the lines of the oracle's subcommand
 // decisions.
+#![tactic(auto)]
+
 mod records;
 mod tokens;
 

@@ -1,5 +1,7 @@
 // Answers each line of the input, a frame in hexadecimal digits, with the TLVs of the message that it holds and with that message written
 // again: the lines of the oracle's subcommand messages.
+#![tactic(auto)]
+
 ghost use Rattle.std.specs.Prelude.{◌≤◌, length};
 
 use announce::AnnounceMessage;

@@ -1,6 +1,8 @@
 // The calls for a program in C or Rust, by include/rillarch.h: slices and numbers go in, the result is paper 01's number, and what is
 // answered goes into the first words of a lent slice. They ask nothing. An answer that is lent too short is 1 before all else; a
 // refusal changes nothing.
+#![tactic(auto)]
+
 ghost use Rattle.std.specs.Prelude.{◌≡◌, length};
 ghost use Rattle.wire.specs.Be.{put};
 ghost use Rattle.frame.specs.Frame.{read_frame};

@@ -1,6 +1,8 @@
 // The log program: lines of hexadecimal digits on standard input, the line of each answer on standard output. No contract can say what
 // a C call reads or writes, so the contracts here say bounds only, and that the store is sound once something is set up; how the input
 // is cut and answered is said by the crate log_piece.
+#![tactic(auto)]
+
 ghost use Rattle.std.specs.Prelude.{◌-◌, ◌≤◌, length};
 ghost use Rattle.log_answer.specs.Answer.{Known};
 ghost use Rattle.log_step.specs.Piece.{StepWithin, StepKnown};

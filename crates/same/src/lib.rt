@@ -1,4 +1,6 @@
 // Equality of messages, as Rust derives it: field by field, here without branches.
+#![tactic(auto)]
+
 ghost use Rattle.std.specs.Prelude.{◌≡◌, true};
 ghost use Rattle.same.specs.Test.{all};
 ghost use Rattle.same.specs.Same.{version, plain, header, timestamp, quality, same_port, same_message};

@@ -1,4 +1,6 @@
 // One held message in eight words of the store, after ForeignAnnounceMessage of bmc/foreign_master.rs, and how it is loaded. The sender's identity stands once, at its master, and not here.
+#![tactic(auto)]
+
 ghost use Rattle.std.specs.Prelude.{◌≡◌, length};
 ghost use Rattle.slot.specs.Slot.{header_in, message_in, decode};
 

@@ -1,4 +1,6 @@
 // A message stored in the eight words of a slot, by the definitions of the crate slot.
+#![tactic(auto)]
+
 ghost use Rattle.std.specs.Prelude.{◌≡◌, ◌*◌, ◌+◌, ◌/◌, ◌%◌, ◌≤◌, length};
 ghost use Rattle.slot.specs.Slot.{Narrow, counts, quality, origin, rest, encode};
 

@@ -1,4 +1,6 @@
 // Runs the state decision over cases whose answers paper 01 gives, and writes how many cases there are and how many are wrong.
+#![tactic(auto)]
+
 mod decided;
 mod ports;
 

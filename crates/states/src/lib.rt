@@ -1,4 +1,6 @@
 // The decision for all ports by their best messages: Ebest, and a recommended state for each port.
+#![tactic(auto)]
+
 ghost use Rattle.std.specs.Prelude.{◌≡◌, map};
 ghost use Rattle.decision.specs.State.{option_of};
 ghost use Rattle.states.specs.Ports.{keep_found, ebest_of, answers_of};

@@ -1,4 +1,6 @@
 // Which of two masters of a port stays in the choice, on the words of the store.
+#![tactic(auto)]
+
 ghost use Rattle.std.specs.Prelude.{◌≡◌, [], ◌∷◌, ◌≤◌, length, get_or};
 ghost use Rattle.order.specs.Order.{is_less, lex};
 ghost use Rattle.book.specs.Layout.{master_words, message_at};

@@ -1,4 +1,6 @@
 // The store that all ports share: its layout, three fields of a message, and the searches for a clock and a master.
+#![tactic(auto)]
+
 ghost use Rattle.std.specs.Prelude.{◌≡◌, ◌<◌, ◌≤◌, ◌+◌, length, get_or, eqb};
 ghost use Rattle.history.specs.Rules.{masters_max, listed_max};
 ghost use Rattle.history.specs.Port.{sequence, steps};

@@ -1,4 +1,6 @@
 // Reading TLVs, after common/tlv.rs: a place in a list and what stands there, and the rule of a list for a reader and for a writer.
+#![tactic(auto)]
+
 ghost use Rattle.std.specs.Prelude.{◌≡◌, ◌≤◌};
 ghost use Rattle.tlv.specs.Tlv.{entry_at, read_at, list_check, check_list, whole_entries};
 

@@ -1,4 +1,6 @@
 // Writing TLVs, after TlvSetBuilder and Tlv::serialize in common/tlv.rs: one entry, and a list that grows in the caller's buffer.
+#![tactic(auto)]
+
 ghost use Rattle.std.specs.Prelude.{◌≡◌, ◌-◌, ◌≤◌};
 ghost use Rattle.tlv_builder.specs.Builder.{entry_answer, entry_exit, add_read, add_exit};
 

@@ -1,5 +1,7 @@
 // Runs the calls that read TLVs over cases whose answers paper 01 gives, and writes for each group how many cases it has and how
 // many are wrong.
+#![tactic(auto)]
+
 mod kinds;
 mod lists;
 mod places;

@@ -1,5 +1,7 @@
 // Writes what each number of a TLV type is, a line for each run of numbers that are treated alike: the lines of the oracle's subcommand
 // kinds.
+#![tactic(auto)]
+
 use libc::STDOUT_FILENO;
 use replay::{print_flag, print8, print16};
 use tlv_type::TlvType;

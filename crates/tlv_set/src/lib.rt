@@ -1,4 +1,6 @@
 // The view of a list of TLVs, after TlvSet in common/tlv.rs: it keeps the caller's bytes, shows the entry at a place, and hands back bytes.
+#![tactic(auto)]
+
 ghost use Rattle.std.specs.Prelude.{◌≡◌, ◌+◌, ◌≤◌, length, take, drop};
 ghost use Rattle.tlv.specs.Tlv.{read_at, check_list};
 ghost use Rattle.tlv_set.specs.View.{list_read};

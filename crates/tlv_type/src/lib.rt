@@ -1,4 +1,6 @@
 // The kind of a TLV, after TlvType in common/tlv.rs: its name, its number, and whether it is passed on downstream.
+#![tactic(auto)]
+
 ghost use Rattle.std.specs.Prelude.{◌≡◌};
 ghost use Rattle.tlv_type.specs.Kind.{kind_of, number_of, passed_on};
 

@@ -1,4 +1,6 @@
 // The verdict of a data set comparison, after bmc/dataset_comparison.rs: how it ranks.
+#![tactic(auto)]
+
 ghost use Rattle.std.specs.Prelude.{◌≡◌};
 ghost use Rattle.verdict.specs.Verdict.{as_ordering, ranks_above, is_by_topology};
 

@@ -1,4 +1,6 @@
 // Big-endian numbers of 1 to 8 bytes in byte slices, signed numbers as their bits, and a layout of fields.
+#![tactic(auto)]
+
 ghost use Rattle.std.specs.Prelude.{◌≡◌, ◌+◌, ◌≤◌, ◌<◌, ◌^◌, length};
 ghost use Rattle.std.specs.Int.{w8, w16, w64};
 ghost use Rattle.std.proofs.Common.{to_z, of_z};
@@ -90,7 +92,7 @@ pub fn put_bytes(s: &mut [u8], at: usize, bs: &[u8])
     requires { at + length bs.now ≤ length s.old }
     ensures { s.new ≡ put s.old at bs.now }
 {
-    bytes::copy(bs, &mut s[at..]);
+    s[at..at + bs.len()].copy_from_slice(bs);
 }
 
 // The signed number of some bits, and the bits of a signed number, in two's complement.

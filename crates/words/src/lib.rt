@@ -1,4 +1,6 @@
 // The words of a store, and where a book keeps its parts.
+#![tactic(auto)]
+
 ghost use Rattle.std.specs.Prelude.{◌+◌, ◌≤◌};
 
 // A store for the cases: a book, and words past it.

@@ -1,5 +1,7 @@
 // Runs the writer of frames and the builder of TLVs over cases whose answers paper 01 gives, and writes for each group how many
 // cases it has and how many are wrong.
+#![tactic(auto)]
+
 mod builder;
 mod large;
 mod writing;
