@@ -6,14 +6,14 @@ ghost use Rattle.announce.specs.Wire.{announce_of, content_at, read_content};
 
 use header::Header;
 
-#[derive(Drop)]
+#[derive(Clone, Copy)]
 pub struct WireTimestamp {
     pub seconds: u64,
     pub nanos: u32,
 }
 
 // The accuracy is the byte of the wire, a reserved one too.
-#[derive(Drop)]
+#[derive(Clone, Copy)]
 pub struct ClockQuality {
     pub clock_class: u8,
     pub clock_accuracy: u8,
@@ -21,7 +21,7 @@ pub struct ClockQuality {
 }
 
 // The time source is the byte of the wire, a reserved one too.
-#[derive(Drop)]
+#[derive(Clone, Copy)]
 pub struct AnnounceMessage {
     pub header: Header,
     pub origin_timestamp: WireTimestamp,
@@ -35,7 +35,7 @@ pub struct AnnounceMessage {
 }
 
 // What a reader of contents answers: the message, or the number of the refusal.
-#[derive(Drop)]
+#[derive(Clone, Copy)]
 pub enum AnnounceRead {
     Done(AnnounceMessage),
     Refused(u8),

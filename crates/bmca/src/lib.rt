@@ -43,7 +43,7 @@ use states::PortAnswer;
 
 // What is decided: paper 01's number, 0 where it is done, then an answer for each port, port 1 first, and the tallies. Answers past the
 // count of ports are blank; so are all where the call is refused, and the tallies are 0.
-#[derive(Drop)]
+#[derive(Clone, Copy)]
 pub struct Decision {
     pub number: u8,
     pub ports: usize,
@@ -53,7 +53,7 @@ pub struct Decision {
 
 // What is decided over a store, before a message is loaded: the count of ports, the port that received Ebest, 0 where there is none, the
 // place of each port's winner, and the number of each port's state; 0 past the count.
-#[derive(Drop)]
+#[derive(Clone, Copy)]
 pub struct Plan {
     pub ports: usize,
     pub best: usize,

@@ -9,7 +9,7 @@ mod tables;
 
 use vectors::tally::Tally;
 
-#[derive(Drop)]
+#[derive(Clone, Copy)]
 enum Group {
     Sequence,
     Steps,

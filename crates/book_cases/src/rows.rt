@@ -9,7 +9,7 @@ pub fn cell(row: &[u8], i: usize) -> u8 {
 }
 
 // How many spaces were passed, and the number read so far.
-#[derive(Drop)]
+#[derive(Clone, Copy)]
 struct Reading {
     spaces: u64,
     value: u64,

@@ -31,7 +31,7 @@ fn fresh_but_one(store: &mut [u64], before: &[u64], row: &[u8]) -> bool {
 }
 
 // What a frame says, and at which port.
-#[derive(Drop)]
+#[derive(Clone, Copy)]
 struct Sent {
     port: u64,
     letter: u8,

@@ -5,7 +5,7 @@ use crate::sent;
 use words::word;
 
 // What a fresh start is given: how many ports, a rule with its list, the interval of one port and that of the others.
-#[derive(Drop)]
+#[derive(Clone, Copy)]
 pub struct Setup {
     pub ports: u64,
     pub rule: u8,

@@ -15,7 +15,7 @@ use choice::Candidate;
 use header::PortIdentity;
 
 // What a call answers: the candidate, nothing where there are no more, or the number of the refusal.
-#[derive(Drop)]
+#[derive(Clone, Copy)]
 pub enum CandidateRead {
     Nothing,
     Found(Candidate),

@@ -11,7 +11,7 @@ use header::PortIdentity;
 use order::Ordering;
 
 // An offered message, with its age and the port that received it. The message holds its header.
-#[derive(Drop)]
+#[derive(Clone, Copy)]
 pub struct BestAnnounceMessage {
     pub message: AnnounceMessage,
     pub age: u64,
@@ -21,7 +21,7 @@ pub struct BestAnnounceMessage {
 // What the choice reads of an offered message, and the place it came from, which the choice does not read. Laid out as in C, so
 // that a list can be lent from outside.
 #[repr(C)]
-#[derive(Drop)]
+#[derive(Clone, Copy)]
 pub struct Candidate {
     pub gm_priority_1: u8,
     pub clock_class: u8,
@@ -38,7 +38,7 @@ pub struct Candidate {
 }
 
 // The one chosen, if there is a candidate.
-#[derive(Drop)]
+#[derive(Clone, Copy)]
 pub enum Best {
     Nothing,
     Found(Candidate),

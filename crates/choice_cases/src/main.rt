@@ -11,7 +11,7 @@ mod ties;
 
 use vectors::tally::Tally;
 
-#[derive(Drop)]
+#[derive(Clone, Copy)]
 enum Group {
     Verdict,
     Field,

@@ -7,7 +7,7 @@ use order::Ordering;
 use vectors::frames;
 
 // Two sides, and the verdict on the left one.
-#[derive(Drop)]
+#[derive(Clone, Copy)]
 pub struct Case {
     pub left: Candidate,
     pub right: Candidate,

@@ -10,7 +10,7 @@ mod writing;
 
 use vectors::tally::Tally;
 
-#[derive(Drop)]
+#[derive(Clone, Copy)]
 enum Group {
     Sequence,
     Flag,

@@ -11,7 +11,7 @@ use order::Ordering;
 pub use verdict::DatasetOrdering;
 
 // Our own data (D0), as far as the decision reads it.
-#[derive(Drop)]
+#[derive(Clone, Copy)]
 pub struct InternalDefaultDS {
     pub clock_identity: u64,
     pub clock_quality: ClockQuality,
@@ -20,7 +20,7 @@ pub struct InternalDefaultDS {
 }
 
 // What the comparison reads of an announce message or of our own data.
-#[derive(Drop)]
+#[derive(Clone, Copy)]
 pub struct ComparisonDataset {
     pub gm_priority_1: u8,
     pub gm_identity: u64,

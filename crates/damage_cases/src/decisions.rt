@@ -2,7 +2,7 @@
 use announce::ClockQuality;
 use candidates::CandidateRead;
 
-#[derive(Drop)]
+#[derive(Clone, Copy)]
 pub struct Told {
     pub number: u8,
     pub consumed: u64,

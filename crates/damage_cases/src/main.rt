@@ -72,7 +72,7 @@ fn every_call(store: &mut [u64], before: &[u64], sound: bool) -> bool {
 }
 
 // The tallies of the books that are still sound, and of those that are not.
-#[derive(Drop)]
+#[derive(Clone, Copy)]
 struct Tallies {
     sound: Tally,
     unsound: Tally,

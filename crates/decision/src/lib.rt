@@ -11,14 +11,14 @@ use compare::{ComparisonDataset, DatasetOrdering, InternalDefaultDS};
 use order::Ordering;
 
 // Ebest or Erbest, if there is one.
-#[derive(Drop)]
+#[derive(Clone, Copy)]
 pub enum BestMessage {
     Nothing,
     Found(BestAnnounceMessage),
 }
 
 // How our own data stands to the best message.
-#[derive(Drop)]
+#[derive(Clone, Copy)]
 pub enum MessageComparison {
     Better,
     Same,
@@ -26,7 +26,7 @@ pub enum MessageComparison {
 }
 
 // What a port is to do, with the message or own data that it rests on. Stay is the crate's None.
-#[derive(Drop)]
+#[derive(Clone, Copy)]
 pub enum RecommendedState {
     Stay,
     M1(InternalDefaultDS),

@@ -15,7 +15,7 @@ use frame::FrameRead;
 use slot::ForeignAnnounceMessage;
 
 // How many messages a call put out, let age out and consumed.
-#[derive(Drop)]
+#[derive(Clone, Copy)]
 pub struct Tallies {
     pub evicted: u64,
     pub aged_out: u64,
@@ -23,7 +23,7 @@ pub struct Tallies {
 }
 
 // What a call answers: its tallies, or the number of the refusal.
-#[derive(Drop)]
+#[derive(Clone, Copy)]
 pub enum Answer {
     Done(Tallies),
     Refused(u8),

@@ -9,7 +9,7 @@ use header::HEADER_SIZE;
 use message_type::{MessageType, TypeRead};
 
 // An announce, with its header, and where in the frame its TLVs begin and end.
-#[derive(Drop)]
+#[derive(Clone, Copy)]
 pub struct Message {
     pub announce: AnnounceMessage,
     pub tlv_start: usize,
@@ -17,7 +17,7 @@ pub struct Message {
 }
 
 // What a reader of frames answers: the message, or the number of the refusal.
-#[derive(Drop)]
+#[derive(Clone, Copy)]
 pub enum FrameRead {
     Done(Message),
     Refused(u8),

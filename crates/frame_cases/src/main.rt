@@ -10,7 +10,7 @@ mod real;
 
 use vectors::tally::Tally;
 
-#[derive(Drop)]
+#[derive(Clone, Copy)]
 enum Group {
     Given,
     GivenTlv,

@@ -6,20 +6,20 @@ ghost use Rattle.header.specs.Wire.{port_identity_at, header_of, header_at, read
 
 use message_type::{MessageType, TypeRead};
 
-#[derive(Drop)]
+#[derive(Clone, Copy)]
 pub struct PortIdentity {
     pub clock_identity: u64,
     pub port_number: u16,
 }
 
-#[derive(Drop)]
+#[derive(Clone, Copy)]
 pub struct PtpVersion {
     pub major: u8,
     pub minor: u8,
 }
 
 // The correction is in units of 2^-16 ns.
-#[derive(Drop)]
+#[derive(Clone, Copy)]
 pub struct Header {
     pub sdo_id: u16,
     pub version: PtpVersion,
@@ -43,7 +43,7 @@ pub struct Header {
 }
 
 // What the 34 bytes hold: the header, the type and the length field.
-#[derive(Drop)]
+#[derive(Clone, Copy)]
 pub struct DeserializedHeader {
     pub header: Header,
     pub message_type: MessageType,
@@ -51,7 +51,7 @@ pub struct DeserializedHeader {
 }
 
 // What a reader of headers answers: all that the bytes hold, or the number of the refusal.
-#[derive(Drop)]
+#[derive(Clone, Copy)]
 pub enum HeaderRead {
     Done(DeserializedHeader),
     Refused(u8),

@@ -9,7 +9,7 @@ use announce::ClockQuality;
 use states::PortAnswer;
 
 // What the last good setup line says beside the book: how many ports there are, our priorities and our quality. No port: there was none.
-#[derive(Drop)]
+#[derive(Clone, Copy)]
 pub struct Setup {
     pub ports: u8,
     pub priority_1: u8,
@@ -18,7 +18,7 @@ pub struct Setup {
 }
 
 // What is set up after a line, and how many bytes its answer takes, LF included.
-#[derive(Drop)]
+#[derive(Clone, Copy)]
 pub struct Answered {
     pub setup: Setup,
     pub count: usize,

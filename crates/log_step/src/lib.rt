@@ -5,14 +5,14 @@ use log_answer::Answered;
 
 // What a call on a piece finds: a line, which is answered, and the place after its LF; or no LF, and how many bytes of the unfinished
 // line are kept.
-#[derive(Drop)]
+#[derive(Clone, Copy)]
 pub enum Step {
     Line { answered: Answered, next: usize },
     Taken { count: usize },
 }
 
 // What the end of the input finds: a line, which is answered, or none.
-#[derive(Drop)]
+#[derive(Clone, Copy)]
 pub enum Rest {
     Line(Answered),
     Nothing,

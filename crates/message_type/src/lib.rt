@@ -5,7 +5,7 @@ ghost use Rattle.std.specs.Prelude.{◌≡◌, ◌≤◌};
 ghost use Rattle.message_type.specs.Types.{type_of, type_number, control_of};
 
 // The known types; the reserved ones have no name, so no writer can be given one.
-#[derive(Drop)]
+#[derive(Clone, Copy)]
 pub enum MessageType {
     Sync,
     DelayReq,
@@ -20,7 +20,7 @@ pub enum MessageType {
 }
 
 // What a number says as a type.
-#[derive(Drop)]
+#[derive(Clone, Copy)]
 pub enum TypeRead {
     Known(MessageType),
     Reserved,

@@ -1,6 +1,6 @@
 -- How numbers and rows of numbers stand: the three-valued order in which the comparison and its laws are written.
 -- Assumes nothing.
-use Rattle.core.specs.Prelude.{ℕ, Bool, true, false, List, [], ◌∷◌, nat_lt}
+use Rattle.std.specs.Prelude.{ℕ, Bool, true, false, List, [], ◌∷◌, nat_lt}
 use Rattle.order.specs.declared.Ordering.{Ordering}
 use Rattle.order.specs.declared.Ordering.TheVariants.{Less, Equal, Greater}
 

@@ -1,7 +1,7 @@
 -- The laws of `cmp` and `lex`. `Stand xs ys o` says why two rows stand as o: a proof goes by its six cases, and a function's return
 -- finds one by `search stands`.
 -- Assumes nothing.
-use Rattle.core.specs.Prelude.{◌≡◌, ℕ, ◌<◌, ◌≤◌, List, [], ◌∷◌}
+use Rattle.std.specs.Prelude.{◌≡◌, ℕ, ◌<◌, ◌≤◌, List, [], ◌∷◌}
 use Rattle.std.specs.Prelude.{refl}
 use Rattle.std.proofs.Common.{ap₂, le_of_lt, le_antisymm, le_trans, lt_trans, lt_of_lt_of_le, lt_of_le_of_lt, le_refl, arith, lt-ltb, le-ltb}
 use Rattle.std.proofs.Math.Decide.{dec_lt}

@@ -7,7 +7,7 @@ use choice::{Best, Candidate};
 const MAX_CANDIDATES: usize = 96;
 
 // How many candidates there are, and the one chosen.
-#[derive(Drop)]
+#[derive(Clone, Copy)]
 pub struct AtOnce {
     count: usize,
     best: Best,

@@ -21,7 +21,7 @@ const MESSAGE_SIZE: usize = TLV_START + 18;
 pub const MAX_CANDIDATES: usize = 48;
 
 // What stands for Ebest or Erbest in a line.
-#[derive(Drop)]
+#[derive(Clone, Copy)]
 pub enum OptionRead {
     Read(BestMessage),
     Bad,

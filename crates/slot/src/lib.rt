@@ -8,7 +8,7 @@ use announce::AnnounceMessage;
 use header::{Header, PortIdentity};
 
 // The message with its header, its age, and the number of the receipt.
-#[derive(Drop)]
+#[derive(Clone, Copy)]
 pub struct ForeignAnnounceMessage {
     pub message: AnnounceMessage,
     pub age: u64,

@@ -10,7 +10,7 @@ use compare::InternalDefaultDS;
 use decision::{BestMessage, RecommendedState};
 
 // A port's answer.
-#[derive(Drop)]
+#[derive(Clone, Copy)]
 pub struct PortAnswer {
     pub port_number: u16,
     pub state: RecommendedState,

@@ -5,14 +5,14 @@ ghost use Rattle.std.specs.Prelude.{◌≡◌, ◌≤◌};
 ghost use Rattle.tlv.specs.Tlv.{entry_at, read_at, list_check, check_list, whole_entries};
 
 // A place in a list of TLVs.
-#[derive(Drop)]
+#[derive(Clone, Copy)]
 pub struct TlvCursor {
     pub at: usize,
 }
 
 // What stands at a place: an entry, whose value is the len bytes from start on, with the place after it; no byte; or the number
 // of the refusal.
-#[derive(Drop)]
+#[derive(Clone, Copy)]
 pub enum TlvRead {
     Entry {
         tlv_type: u16,

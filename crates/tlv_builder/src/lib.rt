@@ -7,13 +7,13 @@ ghost use Rattle.tlv_builder.specs.Builder.{entry_answer, entry_exit, add_read, 
 use tlv::TLV_HEADER_SIZE;
 
 // A list that is being built in a buffer: how many of its bytes are used.
-#[derive(Drop)]
+#[derive(Clone, Copy)]
 pub struct TlvSetBuilder {
     pub used: usize,
 }
 
 // The builder after an entry was added, or the number of the refusal.
-#[derive(Drop)]
+#[derive(Clone, Copy)]
 pub enum Added {
     Done(TlvSetBuilder),
     Refused(u8),

@@ -9,7 +9,7 @@ mod reads;
 
 use vectors::tally::Tally;
 
-#[derive(Drop)]
+#[derive(Clone, Copy)]
 enum Group {
     EntryLength,
     LaterLength,

@@ -5,7 +5,7 @@ ghost use Rattle.std.specs.Prelude.{◌≡◌};
 ghost use Rattle.tlv_type.specs.Kind.{kind_of, number_of, passed_on};
 
 // The kinds that have names, and any other number.
-#[derive(Drop)]
+#[derive(Clone, Copy)]
 pub enum TlvType {
     Management,
     ManagementErrorStatus,

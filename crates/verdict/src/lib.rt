@@ -7,7 +7,7 @@ ghost use Rattle.verdict.specs.Verdict.{as_ordering, ranks_above, is_by_topology
 use order::Ordering;
 
 // The verdict on the left side of a comparison.
-#[derive(Drop)]
+#[derive(Clone, Copy)]
 pub enum DatasetOrdering {
     Better,
     BetterByTopology,

@@ -38,7 +38,8 @@ be-bytes (suc n) x p q =
     let pos : zero < 256 ^ n = one-le-pow n 256 (omega arith) in
     let here : length (p ++ b) ≡ length p + n = simp (length-append, length-bytes_of) in
     let e : p ++ (b ++ (x % 256 ∷ [])) ++ q ≡ p ++ b ++ (x % 256 ∷ q) = simp append_assoc in
-    rw (e, be-bytes n (x / 256) p (x % 256 ∷ q), get_or_at (p ++ b) (x % 256) q 0 (length p + n) here, pow-suc)
+    ap (λ (l : List ℕ). be_at l (length p) n * 256 + get_or l (length p + n) 0) e
+    ∙ rw (be-bytes n (x / 256) p (x % 256 ∷ q), get_or_at (p ++ b) (x % 256) q 0 (length p + n) here, pow-suc)
     (sym (mod-mul x pos (omega arith)))
 
 -- the bytes of the number that was read are those that stand there

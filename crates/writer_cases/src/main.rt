@@ -8,7 +8,7 @@ mod writing;
 
 use vectors::tally::Tally;
 
-#[derive(Drop)]
+#[derive(Clone, Copy)]
 enum Group {
     Unfit,
     Fit,

@@ -1,0 +1,60 @@
+-- `tlv::list_check` meets its contract. The invariant: the check of the rest is the check of the whole. The measure is the length of the rest.
+-- Assumes nothing.
+use Prim.Native.Nat.{ℕ, ◌-◌, ◌<◌, ◌≤◌}
+use mathlib.Core.Path.{◌≡◌, refl, sym, ◌∙◌, ap}
+use mathlib.Core.List.{List}
+use native.Mathlib.Omega.{arith}
+use lib.ListN.{length, take, drop, length-drop}
+use lib.Seq.{take_all}
+use borrow.Author.Rules.{rules}
+use Rattle.tlv.specs.declared.TlvRead.{TlvRead}
+use Rattle.tlv.specs.declared.TlvCursor.{TlvCursor}
+use Rattle.tlv.specs.declared.TlvRead.TheVariants.{End, Refused, Entry}
+use Rattle.tlv.specs.Tlv.{entry_at, check_read, list_check}
+use Rattle.tlv.specs.Laws.{entry_read, unrolled}
+use Rattle.tlv.proofs.list_check.Goals as goal
+
+-- a part that goes to the end, and its length
+to_end : (a : ℕ) (l : List ℕ) → take (length l - a) (drop a l) ≡ drop a l
+to_end a l = take_all (length l - a) (drop a l) (omega (arith, length-drop a l))
+
+shorter : (a : ℕ) (l : List ℕ) → 0 < a → a ≤ length l → length (take (length l - a) (drop a l)) < length l
+shorter a l h k = rw (to_end a l, length-drop) (omega arith)
+
+-- the check of the whole is what stands at the start of the rest says of the rest
+answers : (least : ℕ) (s rest : List ℕ) (r q : TlvRead) → q ≡ entry_at least rest 0 → q ≡ r → list_check least rest ≡ list_check least s
+    → check_read (list_check least) rest r ≡ list_check least s
+answers least s rest r q f e h = rw (← e, f, ← unrolled) h
+
+-- an entry has bytes, and ends within the rest
+bounds : (least t b l : ℕ) (rest : List ℕ) (next : TlvCursor) (q : TlvRead) → q ≡ entry_at least rest 0 → q ≡ Entry t b l next
+    → (0 < next.at) × (next.at ≤ length rest)
+bounds least t b l rest next q f e =
+    let r = entry_read least rest 0 t b l next (sym f ∙ e) in
+    (omega (arith, r.after), omega (arith, r.after, r.within))
+
+pub loop-n-init : goal.loop-n-init
+loop-n-init c = refl
+
+pub returns-in-End : goal.returns-in-End
+returns-in-End c = answers c.args.least c.args.s.now c.loop-n.rest.now End _ c.entry_at.ensures c.in-End.is c.loop-n.invariant
+
+pub returns-in-Refused : goal.returns-in-Refused
+returns-in-Refused c = answers c.args.least c.args.s.now c.loop-n.rest.now _ _ c.entry_at.ensures c.in-Refused.is c.loop-n.invariant
+
+pub slice_bounds-rest-count : goal.slice_bounds-rest-count
+slice_bounds-rest-count c = (bounds _ _ _ _ c.loop-n.rest.now _ _ c.entry_at.ensures c.in-Entry.is).1
+
+pub slice_bounds-rest-start : goal.slice_bounds-rest-start
+slice_bounds-rest-start c = (bounds _ _ _ _ c.loop-n.rest.now _ _ c.entry_at.ensures c.in-Entry.is).1
+
+pub loop-n-smaller : goal.loop-n-smaller
+loop-n-smaller c =
+    let rest = c.loop-n.rest.now in
+    let b = bounds _ _ _ _ rest _ _ c.entry_at.ensures c.in-Entry.is in
+    shorter _ rest b.0 b.1
+
+pub loop-n-preserved : goal.loop-n-preserved
+loop-n-preserved c =
+    ap (list_check _) (to_end _ c.loop-n.rest.now)
+    ∙ answers c.args.least c.args.s.now c.loop-n.rest.now _ _ c.entry_at.ensures c.in-Entry.is c.loop-n.invariant
