@@ -43,11 +43,13 @@ module _ {A : Type 0} where
   numbered-map n (x ∷ xs) = ap (λ l. x ∷ l) (numbered-map (suc n) xs)
 
   numbered_in : (n : ℕ) (xs : List A) (o : ℕ × A) → Memᴰ o (numbered n xs) → Memᴰ o.1 xs
+  numbered_in n [] o m = elim m [ ]
   numbered_in n (x ∷ xs) o (Memᴰ.head e) = Memᴰ.head (ap (λ (p : ℕ × A). p.1) e)
   numbered_in n (x ∷ xs) o (Memᴰ.tail m) = Memᴰ.tail (numbered_in (suc n) xs o m)
 
   -- each stands at its place
   numbered-at : (n : ℕ) (xs : List A) (o : ℕ × A) → Memᴰ o (numbered n xs) → (n ≤ o.0) × (get_elem? xs (o.0 - n) ≡ some o.1)
+  numbered-at n [] o m = elim m [ ]
   numbered-at n (x ∷ xs) o (Memᴰ.head e) =
       let p : o.0 ≡ n = ap (λ (p : ℕ × A). p.0) e in
       let z : o.0 - n ≡ 0 = omega arith in

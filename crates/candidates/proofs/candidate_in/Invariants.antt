@@ -1,0 +1,11 @@
+-- `candidates::candidate_in` meets its contract. Assumes nothing.
+use Prim.Native.Nat.{◌-◌, ◌≤◌}
+use Rattle.history.specs.Rules.{ports_max}
+use Rattle.candidates.specs.Steps.{Left}
+use Rattle.candidates.proofs.candidate_in.Given as goal
+
+abbrev pub invariant-loop-q : goal.invariant-loop-q
+invariant-loop-q l = (l.q ≤ l.count) × (l.count ≤ ports_max) × Left l.store l.k l.q l.left
+
+abbrev pub decreases-loop-q : goal.decreases-loop-q
+decreases-loop-q l = l.count - l.q
