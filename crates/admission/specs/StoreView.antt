@@ -81,26 +81,26 @@ share_other : (k q : ℕ) (f : Frame ForeignAnnounceMessage) → (q ≡ k → �
 share_other k q f ne = simp (ne_eqb q k ne)
 
 -- the turns of a store's ports at a call
-turn_at_lem : List ℕ → Call ForeignAnnounceMessage → ℕ → Turn ForeignAnnounceMessage
-turn_at_lem s c j = turn reads (site_of s) (1 + j) (share (1 + j) c) (port_of (block s (port_at j) port_words))
+turn_at : List ℕ → Call ForeignAnnounceMessage → ℕ → Turn ForeignAnnounceMessage
+turn_at s c j = turn reads (site_of s) (1 + j) (share (1 + j) c) (port_of (block s (port_at j) port_words))
 
-turns_at : (s : List ℕ) (c : Call ForeignAnnounceMessage) → turns reads c (book_of s) ≡ tab (get_or s 0 0) (turn_at_lem s c)
-unfolding turns book_of turn_at_lem
+turns_at : (s : List ℕ) (c : Call ForeignAnnounceMessage) → turns reads c (book_of s) ≡ tab (get_or s 0 0) (turn_at s c)
+unfolding turns book_of turn_at
 turns_at s c = turns-tab (site_of s) c (get_or s 0 0) 1 (λ j. port_of (block s (port_at j) port_words))
 
 -- the number of a registration, on a port that there is and on one that there is not
 pub number-here : (s : List ℕ) (q : ℕ) (f : Frame ForeignAnnounceMessage) → q < get_or s 0 0
     → number (register (1 + q) f) (turns reads (register (1 + q) f) (book_of s)) ≡ (hearing reads (site_of s) (1 + q) f (port_of (block s (port_at q) port_words))).answer
-unfolding number turn_at_lem
+unfolding number turn_at
 number-here s q f h =
     ap (answer_from 1 (1 + q)) (turns_at s (register (1 + q) f))
-    ∙ answer_at (get_or s 0 0) 1 q (turn_at_lem s (register (1 + q) f)) h
+    ∙ answer_at (get_or s 0 0) 1 q (turn_at s (register (1 + q) f)) h
     ∙ ap (λ (c : PortCall ForeignAnnounceMessage). (turn reads (site_of s) (1 + q) c (port_of (block s (port_at q) port_words))).answer) (share-here (1 + q) f)
 
 pub number_6 : (s : List ℕ) (p : ℕ) (f : Frame ForeignAnnounceMessage) → ((j : ℕ) → j < get_or s 0 0 → p ≡ 1 + j → ⊥)
     → number (register p f) (turns reads (register p f) (book_of s)) ≡ 6
 unfolding number
-number_6 s p f o = ap (answer_from 1 p) (turns_at s (register p f)) ∙ answer-none (get_or s 0 0) 1 p (turn_at_lem s (register p f)) o
+number_6 s p f o = ap (answer_from 1 p) (turns_at s (register p f)) ∙ answer-none (get_or s 0 0) 1 p (turn_at s (register p f)) o
 
 -- ---- what soundness says of a port
 
@@ -137,17 +137,17 @@ module _ (s : List ℕ) (room : store_words ≤ length s) (sound : sound_words s
     call = register (1 + q) (announce m)
 
     T : ℕ → Turn ForeignAnnounceMessage
-    T = turn_at_lem s call
+    T = turn_at s call
 
     -- the port's own turn, and the others'
     turn-here : T q ≡ taking reads m (port_of port)
-    unfolding T turn_at_lem register_port
+    unfolding T turn_at register_port
     turn-here =
         ap (λ (c : PortCall ForeignAnnounceMessage). turn reads (site_of s) (1 + q) c (port_of port)) (share-here (1 + q) (announce m))
         ∙ ap (λ (n : ℕ). cond (eqb n 0) (taking reads m (port_of port)) (unchanged n (port_of port))) (sym (refusal_view m) ∙ done)
 
     turn-other : (j : ℕ) → (q ≡ j → ⊥) → T j ≡ unchanged 0 (port_of (block s (port_at j) port_words))
-    unfolding T turn_at_lem
+    unfolding T turn_at
     turn-other j ne =
         ap (λ (c : PortCall ForeignAnnounceMessage). turn reads (site_of s) (1 + j) c (port_of (block s (port_at j) port_words)))
         (share_other (1 + j) (1 + q) (announce m) (λ e. ne (omega arith)))

@@ -5,7 +5,7 @@ use Rattle.std.proofs.Math.Path.{refl, ap, subst}
 use Rattle.std.proofs.Common.{sym, ◌∙◌}
 use Rattle.std.proofs.Math.Bool.{false}
 use mathlib.Core.List.Memᴰ
-use mathlib.Core.List.{List, ◌∷◌, Memᴰ, map}
+use mathlib.Core.List.{List, [], ◌∷◌, Memᴰ, map}
 use Rattle.std.proofs.Math.Option.{some}
 use Rattle.order.specs.declared.Ordering.{Ordering}
 use Rattle.order.specs.declared.Ordering.TheVariants.{Less, Equal, Greater}
@@ -62,6 +62,7 @@ module _ {A : Type 0} {shown : A → Candidate} {xs : List A} (a : Agreeing show
 
 -- a candidate of a port is one of all
 in_joined : {A : Type 0} (x : A) (xs : List A) (ports : List (List A)) → Memᴰ xs ports → Memᴰ x xs → Memᴰ x (joined ports)
+in_joined x xs [] n m = elim n [ ]
 in_joined x xs (ys ∷ ports) (Memᴰ.head e) m = Memᴰ.append_left (joined ports) (subst (λ zs. Memᴰ x zs) e m)
 in_joined x xs (ys ∷ ports) (Memᴰ.tail n) m = Memᴰ.append_right ys (in_joined x xs ports n m)
 

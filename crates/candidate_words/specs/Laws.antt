@@ -6,7 +6,7 @@ use Rattle.std.proofs.Math.Nat.{mod-eq_of_lt}
 use borrow.Author.Tests.{le-leb, eq-eqb, ne_eqb}
 use Rattle.choice.specs.declared.Candidate.{Candidate}
 use Rattle.lent.specs.Words.{all_within}
-use Rattle.candidate_words.specs.Words.{candidate_size, candidate_words, fits_candidate, candidate_in, candidates_in, fits_all_lem, list_refusal}
+use Rattle.candidate_words.specs.Words.{candidate_size, candidate_words, fits_candidate, candidate_in, candidates_in, fits_all, list_refusal}
 
 -- the numbers of a candidate are those of its types
 pub record Typed (c : Candidate) : Type 0 where
@@ -63,7 +63,7 @@ module _ (n i : ℕ) (ws : List ℕ) where
   rest_of = candidates_in (n - i) (drop (i * candidate_size) ws)
 
   abbrev pub rest_fits : Bool
-  rest_fits = fits_all_lem (n - i) (drop (i * candidate_size) ws)
+  rest_fits = fits_all (n - i) (drop (i * candidate_size) ws)
 
 -- from the first on: all of them
 module _ (n : ℕ) (ws : List ℕ) where
@@ -73,7 +73,7 @@ module _ (n : ℕ) (ws : List ℕ) where
   pub rest_all : candidates_in n ws ≡ rest_of n 0 ws
   rest_all = rw all_left
 
-  pub fits_all_lem : fits_all_lem n ws ≡ rest_fits n 0 ws
+  pub fits_all_lem : fits_all n ws ≡ rest_fits n 0 ws
   fits_all_lem = rw all_left
 
 module _ (n i : ℕ) (ws : List ℕ) (lt : i < n) where
@@ -91,7 +91,7 @@ module _ (n i : ℕ) (ws : List ℕ) (lt : i < n) where
   rest-next = rw (one_less, past)
 
   pub fits_next : rest_fits n i ws ≡ (fits_candidate (take candidate_size (drop (i * candidate_size) ws)) && rest_fits n (i + 1) ws)
-  unfolding fits_all_lem
+  unfolding fits_all
   fits_next = rw (one_less, past)
 
 -- past the last there is none
@@ -104,7 +104,7 @@ module _ (n i : ℕ) (ws : List ℕ) (le : n ≤ i) where
   rest_end = rw none_left
 
   pub fits-end : rest_fits n i ws ≡ true
-  unfolding fits_all_lem
+  unfolding fits_all
   fits-end = rw none_left
 
 -- ---- the refusal of a list by its cases
@@ -114,6 +114,6 @@ module _ (ws : List ℕ) where
   unfolding list_refusal
   list_broken ne = rw (ne_eqb (length ws % candidate_size) 0 ne)
 
-  pub list-fits : (t : Bool) → length ws % candidate_size ≡ 0 → fits_all_lem (length ws / candidate_size) ws ≡ t → cond t 0 15 ≡ list_refusal ws
+  pub list-fits : (t : Bool) → length ws % candidate_size ≡ 0 → fits_all (length ws / candidate_size) ws ≡ t → cond t 0 15 ≡ list_refusal ws
   unfolding list_refusal
   list-fits t z e = rw (eq-eqb (length ws % candidate_size) 0 z, e)

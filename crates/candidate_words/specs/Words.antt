@@ -72,9 +72,9 @@ unfoldable pub candidates_in : ℕ → List ℕ → List Candidate
 candidates_in zero ws = []
 candidates_in (suc n) ws = candidate_in (take candidate_size ws) ∷ candidates_in n (drop candidate_size ws)
 
-unfoldable pub fits_all_lem : ℕ → List ℕ → Bool
-fits_all_lem zero ws = true
-fits_all_lem (suc n) ws = fits_candidate (take candidate_size ws) && fits_all_lem n (drop candidate_size ws)
+unfoldable pub fits_all : ℕ → List ℕ → Bool
+fits_all zero ws = true
+fits_all (suc n) ws = fits_candidate (take candidate_size ws) && fits_all n (drop candidate_size ws)
 
 -- ---- a list of candidates
 
@@ -83,4 +83,4 @@ candidates_of ws = candidates_in (length ws / candidate_size) ws
 
 -- paper 01's number of words that are to be a list of candidates: 1 where they are no whole ones, then 15
 unfoldable pub list_refusal : List ℕ → ℕ
-list_refusal ws = cond (eqb (length ws % candidate_size) 0) (cond (fits_all_lem (length ws / candidate_size) ws) 0 15) 1
+list_refusal ws = cond (eqb (length ws % candidate_size) 0) (cond (fits_all (length ws / candidate_size) ws) 0 15) 1

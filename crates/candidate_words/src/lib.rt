@@ -4,7 +4,7 @@
 ghost use Rattle.std.specs.Prelude.{◌≡◌, ◌+◌, ◌*◌, ◌≤◌, length};
 ghost use Rattle.wire.specs.Be.{put};
 ghost use Rattle.choice.specs.Candidate.{best_of, winner, itself};
-ghost use Rattle.candidate_words.specs.Words.{candidate_size, candidate_words, fits_candidate, candidate_refusal, candidate_in, candidates_in, fits_all_lem, candidates_of, list_refusal};
+ghost use Rattle.candidate_words.specs.Words.{candidate_size, candidate_words, fits_candidate, candidate_refusal, candidate_in, candidates_in, fits_all, candidates_of, list_refusal};
 
 use choice::{Best, Candidate};
 
@@ -94,7 +94,7 @@ pub fn candidate_of(s: &[u64]) -> Candidate
 // Whether the words of n candidates are at most what their fields hold.
 fn all_fit(s: &[u64], n: usize) -> bool
     requires { n * candidate_size ≤ length s.now }
-    ensures { result ≡ fits_all_lem n s.now }
+    ensures { result ≡ fits_all n s.now }
 {
     let mut i = 0;
     while i < n {

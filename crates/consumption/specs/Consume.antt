@@ -21,8 +21,8 @@ unfoldable pub consumed_at : ℕ → ℕ → List ℕ → List ℕ
 consumed_at winner i p = cond (loses winner p i) (less_at (master_at i + 3) p) p
 
 -- so many of its messages go
-abbrev pub gone_at_lem : ℕ → List ℕ → ℕ → ℕ
-gone_at_lem winner p i = cond (loses winner p i) 1 0
+abbrev pub gone_at : ℕ → List ℕ → ℕ → ℕ
+gone_at winner p i = cond (loses winner p i) 1 0
 
 -- the first n masters of a port
 abbrev pub consumed_below : ℕ → ℕ → List ℕ → List ℕ
@@ -32,7 +32,7 @@ consumed_below winner (suc n) p = consumed_at winner n (consumed_below winner n 
 -- how many of their messages go
 abbrev pub gone_below : ℕ → ℕ → List ℕ → ℕ
 gone_below winner zero p = 0
-gone_below winner (suc n) p = gone_below winner n p + gone_at_lem winner p n
+gone_below winner (suc n) p = gone_below winner n p + gone_at winner p n
 
 -- a port after a decision that master `winner` has won, or nobody where there is no such master
 unfoldable pub consumed_in : ℕ → List ℕ → List ℕ

@@ -4,7 +4,7 @@
 ghost use Rattle.std.specs.Prelude.{◌≡◌, ◌<◌, ◌≤◌, length, get_or};
 ghost use Rattle.history.specs.Rules.{masters_max};
 ghost use Rattle.book.specs.Layout.{master_words, port_words};
-ghost use Rattle.consumption.specs.Consume.{consumed, consumed_at, gone_at_lem, consumed_in, gone_in};
+ghost use Rattle.consumption.specs.Consume.{consumed, consumed_at, gone_at, consumed_in, gone_in};
 
 // A master gives up its newest message: its ring holds one less.
 fn consume_newest(master: &mut [u64])
@@ -18,7 +18,7 @@ fn consume_newest(master: &mut [u64])
 // Master i of a port gives up the message that it offers, unless it has won; and how many go.
 fn consume_one(port: &mut [u64], winner: usize, i: usize) -> u64
     requires { (length port.old ≡ port_words) × (i < masters_max) }
-    ensures { (port.new ≡ consumed_at winner i port.old) × (result ≡ gone_at_lem winner port.old i) × (result ≤ 1) }
+    ensures { (port.new ≡ consumed_at winner i port.old) × (result ≡ gone_at winner port.old i) × (result ≤ 1) }
 {
     if winner == i {
         return 0;

@@ -21,7 +21,7 @@ use Rattle.log_answer.specs.Answer.{Asked, setup_of, store_of, Known, answered_o
 use Rattle.log_setup.specs.Start.{intervals_at, start_at, setup_at, start_asked}
 use Rattle.log_call.specs.Call.{frame_asked, step_asked}
 use Rattle.log_decision.specs.Call.{decision_of, decision_asked}
-use Rattle.log_asked.specs.Line.{kind_asked, asked_of, asked, line_answered, line_store_lem}
+use Rattle.log_asked.specs.Line.{kind_asked, asked_of, asked, line_answered, line_store}
 
 -- the bytes that digits spell are bytes
 pairs_bytes : (l : List ℕ) → Bytes (pairs_of l)
@@ -86,8 +86,8 @@ module _ (setup : Setup) (s : List ℕ) (known : Known 0 setup s) where
   after a (starting line e) = subst After e (start-known line (number_of (start_at line) s) refl)
   after a (calling c w r e) = subst After e (λ _. sym (call_view s (sym (known r)) c w).sound)
 
-  pub line_known : (line out : List ℕ) → Known 0 (line_answered setup line s out).setup (line_store_lem setup line s out)
-  unfolding line_answered line_store_lem answered_of After
+  pub line_known : (line out : List ℕ) → Known 0 (line_answered setup line s out).setup (line_store setup line s out)
+  unfolding line_answered line_store answered_of After
   line_known line out = by-room (ltb (length out) answer_bytes)
     where
       by-room : (b : Bool) → Known 0 (cond {A = Answered} b (record { setup = setup; count = 0 }) (answered_of (asked setup line) setup s)).setup (cond b s (store_of (asked setup line) s))

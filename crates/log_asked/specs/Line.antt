@@ -37,8 +37,8 @@ asked setup line =
 unfoldable pub line_answered : Setup → (line s out : List ℕ) → Answered
 line_answered setup line s out = cond (ltb (length out) answer_bytes) (record { setup = setup; count = 0 }) (answered_of (asked setup line) setup s)
 
-unfoldable pub line_store_lem : Setup → (line s out : List ℕ) → List ℕ
-line_store_lem setup line s out = cond (ltb (length out) answer_bytes) s (store_of (asked setup line) s)
+unfoldable pub line_store : Setup → (line s out : List ℕ) → List ℕ
+line_store setup line s out = cond (ltb (length out) answer_bytes) s (store_of (asked setup line) s)
 
 unfoldable pub line_out : Setup → (line s out : List ℕ) → List ℕ
 line_out setup line s out = cond (ltb (length out) answer_bytes) out (out_of (asked setup line) s out)

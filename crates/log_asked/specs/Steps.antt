@@ -17,7 +17,7 @@ use Rattle.log_answer.specs.Answer.{text_of, Answers, answer_bytes}
 use Rattle.log_setup.specs.Start.{start_asked}
 use Rattle.log_call.specs.Call.{frame_asked, step_asked}
 use Rattle.log_decision.specs.Call.{decision_asked}
-use Rattle.log_asked.specs.Line.{kind_asked, asked_of, asked, line_answered, line_store_lem, line_out, none_answered, none_out}
+use Rattle.log_asked.specs.Line.{kind_asked, asked_of, asked, line_answered, line_store, line_out, none_answered, none_out}
 
 -- ---- the bytes of a line of digits
 
@@ -119,13 +119,13 @@ module _ (kind : ℕ) (setup : Setup) (line : List ℕ) where
 -- ---- the whole call
 
 module _ (setup : Setup) (line s out : List ℕ) where
-  pub no_room : length out < answer_bytes → (record { setup = setup; count = 0 } ≡ line_answered setup line s out) × (s ≡ line_store_lem setup line s out) × (out ≡ line_out setup line s out)
-  unfolding line_answered line_store_lem line_out
+  pub no_room : length out < answer_bytes → (record { setup = setup; count = 0 } ≡ line_answered setup line s out) × (s ≡ line_store setup line s out) × (out ≡ line_out setup line s out)
+  unfolding line_answered line_store line_out
   no_room h = rw (lt-ltb (length out) answer_bytes h) (refl, refl, refl)
 
   pub room : (r : Answered) (s' out' : List ℕ) → answer_bytes ≤ length out → Answers (asked setup line) setup s out r s' out'
-      → (r ≡ line_answered setup line s out) × (s' ≡ line_store_lem setup line s out) × (out' ≡ line_out setup line s out)
-  unfolding line_answered line_store_lem line_out
+      → (r ≡ line_answered setup line s out) × (s' ≡ line_store setup line s out) × (out' ≡ line_out setup line s out)
+  unfolding line_answered line_store line_out
   room r s' out' h a = rw (le-ltb (length out) answer_bytes h) a
 
 module _ (setup : Setup) (out : List ℕ) where

@@ -4,7 +4,7 @@
 ghost use Rattle.std.specs.Prelude.{◌≡◌, ◌≤◌, length};
 ghost use Rattle.book.specs.Rules.{store_refusal};
 ghost use Rattle.log_answer.specs.Answer.{answer_bytes, Known, Answers};
-ghost use Rattle.log_asked.specs.Line.{kind_asked, asked_of, asked, line_answered, line_store_lem, line_out, none_answered, none_out};
+ghost use Rattle.log_asked.specs.Line.{kind_asked, asked_of, asked, line_answered, line_store, line_out, none_answered, none_out};
 
 use log_answer::{ANSWER_BYTES, Answered, SHAPELESS, Setup};
 
@@ -78,7 +78,7 @@ pub fn line_checked(
 ) -> Answered
     requires { Known checked setup store.old }
     ensures value { result ≡ line_answered setup line.now store.old out.old }
-    ensures store_after { store.new ≡ line_store_lem setup line.now store.old out.old }
+    ensures store_after { store.new ≡ line_store setup line.now store.old out.old }
     ensures out_after { out.new ≡ line_out setup line.now store.old out.old }
 {
     if out.len() < ANSWER_BYTES {
@@ -95,7 +95,7 @@ pub fn line_checked(
 // gets no answer, and nothing changes.
 pub fn log_line(store: &mut [u64], setup: Setup, line: &[u8], out: &mut [u8]) -> Answered
     ensures value { result ≡ line_answered setup line.now store.old out.old }
-    ensures store_after { store.new ≡ line_store_lem setup line.now store.old out.old }
+    ensures store_after { store.new ≡ line_store setup line.now store.old out.old }
     ensures out_after { out.new ≡ line_out setup line.now store.old out.old }
 {
     let checked = book::check(store);

@@ -5,7 +5,7 @@
 ghost use Rattle.std.specs.Prelude.{◌≡◌, ◌≤◌, length, take};
 ghost use Rattle.lines.specs.Lines.{next_line, kept_of, last_of};
 ghost use Rattle.log_answer.specs.Answer.{Known};
-ghost use Rattle.log_asked.specs.Line.{line_answered, line_store_lem, line_out};
+ghost use Rattle.log_asked.specs.Line.{line_answered, line_store, line_out};
 ghost use Rattle.log_step.specs.Piece.{step_of, step_store, step_out, StepWithin, rest_of, rest_store, rest_out, RestWithin};
 
 use lines::{Cut, Last};
@@ -15,7 +15,7 @@ use log_step::{Rest, Step};
 // Answers the line of n bytes at the start of the buffer.
 fn kept_line(store: &mut [u64], setup: Setup, buffer: &[u8], n: usize, out: &mut [u8]) -> Answered
     requires { (n ≤ length buffer.now) × Known 0 setup store.old }
-    ensures { (result ≡ line_answered setup (take n buffer.now) store.old out.old) × (store.new ≡ line_store_lem setup (take n buffer.now) store.old out.old) × (out.new ≡ line_out setup (take n buffer.now) store.old out.old) }
+    ensures { (result ≡ line_answered setup (take n buffer.now) store.old out.old) × (store.new ≡ line_store setup (take n buffer.now) store.old out.old) × (out.new ≡ line_out setup (take n buffer.now) store.old out.old) }
 {
     log_line::line_checked(store, 0, setup, &buffer[..n], out)
 }

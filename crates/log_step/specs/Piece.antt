@@ -8,7 +8,7 @@ use Rattle.lines.specs.declared.Last.TheVariants as L
 use Rattle.log_answer.specs.declared.Setup.{Setup}
 use Rattle.log_answer.specs.declared.Answered.{Answered}
 use Rattle.log_answer.specs.Answer.{Known}
-use Rattle.log_asked.specs.Line.{line_answered, line_store_lem, line_out, none_answered, none_out}
+use Rattle.log_asked.specs.Line.{line_answered, line_store, line_out, none_answered, none_out}
 use Rattle.log_step.specs.declared.Step.{Step}
 use Rattle.log_step.specs.declared.Step.TheVariants as S
 use Rattle.log_step.specs.declared.Rest.{Rest}
@@ -21,7 +21,7 @@ told_answered (line l) setup s out = line_answered setup l s out
 told_answered too_long setup s out = none_answered setup out
 
 abbrev pub told_store : Told → Setup → (s out : List ℕ) → List ℕ
-told_store (line l) setup s out = line_store_lem setup l s out
+told_store (line l) setup s out = line_store setup l s out
 told_store too_long setup s out = s
 
 abbrev pub told_out : Told → Setup → (s out : List ℕ) → List ℕ
@@ -50,7 +50,7 @@ rest_of L.TooLong buffer setup s out = R.Line (none_answered setup out)
 rest_of L.Nothing buffer setup s out = R.Nothing
 
 abbrev pub rest_store : Last → (buffer : List ℕ) → Setup → (s out : List ℕ) → List ℕ
-rest_store (L.Line n) buffer setup s out = line_store_lem setup (take n buffer) s out
+rest_store (L.Line n) buffer setup s out = line_store setup (take n buffer) s out
 rest_store L.TooLong buffer setup s out = s
 rest_store L.Nothing buffer setup s out = s
 

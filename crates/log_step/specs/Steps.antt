@@ -15,7 +15,7 @@ use Rattle.lines.specs.declared.Last.TheVariants as L
 use Rattle.log_answer.specs.declared.Setup.{Setup}
 use Rattle.log_answer.specs.declared.Answered.{Answered}
 use Rattle.log_answer.specs.Answer.{Asked, Known, state_byte, told_of, text_of, answered_of, answer_bytes}
-use Rattle.log_asked.specs.Line.{asked, line_answered, line_store_lem, line_out, none_answered, none_out}
+use Rattle.log_asked.specs.Line.{asked, line_answered, line_store, line_out, none_answered, none_out}
 use Rattle.log_answer.specs.Steps.{length-text}
 use Rattle.log_decision.specs.Steps.{few-ports}
 use Rattle.log_asked.specs.Kinds.{line_known}
@@ -116,7 +116,7 @@ Stepped N size at setup s room r s' out' buffer' =
 
 module _ (limit size at : ℕ) (cut : Cut) (within : CutWithin limit size at cut) (setup : Setup) (s room buffer' : List ℕ) where
   pub line_step : (N : Next Open Told) → LineStands N → cut ≡ cut_of N → buffer' ≡ kept_of N → (n next : ℕ) → cut ≡ C.Line n next → (r : Answered) (s' out' : List ℕ)
-      → (r ≡ line_answered setup (take n buffer') s room) × (s' ≡ line_store_lem setup (take n buffer') s room) × (out' ≡ line_out setup (take n buffer') s room)
+      → (r ≡ line_answered setup (take n buffer') s room) × (s' ≡ line_store setup (take n buffer') s room) × (out' ≡ line_out setup (take n buffer') s room)
       → Stepped N size at setup s room (S.Line r next) s' out' buffer'
   line_step (found (line l) o k) stands q b n next e r s' out' h =
       let same : n ≡ length l = ap count_of (sym e ∙ q) in
@@ -126,7 +126,7 @@ module _ (limit size at : ℕ) (cut : Cut) (within : CutWithin limit size at cut
       let w : CutWithin limit size at (C.Line n next) = subst (λ (x : Cut). CutWithin limit size at x) e within in (
         (λ i. S.Line (answer i) (place i)),
         (
-          h.1 ∙ ap (λ (x : List ℕ). line_store_lem setup x s room) bytes,
+          h.1 ∙ ap (λ (x : List ℕ). line_store setup x s room) bytes,
           (
             h.2 ∙ ap (λ (x : List ℕ). line_out setup x s room) bytes,
             (b, (subst (λ (x : Answered). x.count ≤ length room) (sym answer) (line-fits setup l s room), w.1, w.2)),
@@ -182,7 +182,7 @@ module _ (x : Last) (buffer : List ℕ) (setup : Setup) (s room : List ℕ) wher
   rests y e r s' out' h = subst (λ (z : Last). Rested z buffer setup s room r s' out') e h
 
   pub line-rest : (n : ℕ) → L.Line n ≡ x → (r : Answered) (s' out' : List ℕ)
-      → (r ≡ line_answered setup (take n buffer) s room) × (s' ≡ line_store_lem setup (take n buffer) s room) × (out' ≡ line_out setup (take n buffer) s room)
+      → (r ≡ line_answered setup (take n buffer) s room) × (s' ≡ line_store setup (take n buffer) s room) × (out' ≡ line_out setup (take n buffer) s room)
       → Rested x buffer setup s room (R.Line r) s' out'
   line-rest n e r s' out' h =
       rests (L.Line n) e (R.Line r) s' out'

@@ -12,7 +12,7 @@ use Rattle.hex_line.specs.Hex.{pairs_of, missed}
 use Rattle.log_answer.specs.declared.Setup.{Setup}
 use Rattle.log_answer.specs.declared.Answered.{Answered}
 use Rattle.log_answer.specs.Answer.{Asked, no_setup, told_of, text_of, setup_of, store_of, out_of, answered_of, answer_bytes}
-use Rattle.log_asked.specs.Line.{asked_of, asked, line_answered, line_store_lem, line_out, none_answered, none_out}
+use Rattle.log_asked.specs.Line.{asked_of, asked, line_answered, line_store, line_out, none_answered, none_out}
 use Rattle.log_answer.specs.Steps.{length-text}
 use Rattle.log_step.specs.Piece.{told_answered, told_store, told_out}
 use Rattle.log_step.specs.Steps.{told-fits}
@@ -67,7 +67,7 @@ pub record Written (t : Told) (setup : Setup) (s room : List ℕ) : Type 0 where
   pub words : told_store t setup s room ≡ store_of (asked_told setup t) s
 
 pub answer-text : (t : Told) (setup : Setup) (s room : List ℕ) → answer_bytes ≤ length room → Written t setup s room
-unfolding line_answered line_store_lem line_out none_answered none_out answered_of out_of
+unfolding line_answered line_store line_out none_answered none_out answered_of out_of
 answer-text (line l) setup s room h =
     let a = asked setup l in
     let enough = le-ltb (length room) answer_bytes h in

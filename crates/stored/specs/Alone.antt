@@ -63,12 +63,12 @@ map-noted f judge x xs = refl
 
 -- ---- an event of a book before calls on it
 
-abbrev turn_at_lem : ℕ → Event ForeignAnnounceMessage → Book ForeignAnnounceMessage → Option (Turn ForeignAnnounceMessage)
-turn_at_lem i (start S ns) B = none
-turn_at_lem i (call c) B = get_elem? (turns reads c B) i
+abbrev turn_at : ℕ → Event ForeignAnnounceMessage → Book ForeignAnnounceMessage → Option (Turn ForeignAnnounceMessage)
+turn_at i (start S ns) B = none
+turn_at i (call c) B = get_elem? (turns reads c B) i
 
 reports-follow : (i : ℕ) (e : Event ForeignAnnounceMessage) (B : Book ForeignAnnounceMessage) (cs : List (Call ForeignAnnounceMessage)) → Passed e
-    → reports reads i B (follow e cs) ≡ noted (share_at (1 + i) e) (turn_at_lem i e B) (reports reads i (step reads e B) cs)
+    → reports reads i B (follow e cs) ≡ noted (share_at (1 + i) e) (turn_at i e B) (reports reads i (step reads e B) cs)
 reports-follow i (start S ns) B cs p = ap (λ (D : Book ForeignAnnounceMessage). reports reads i D cs) (sym (passed-same S ns B p))
 reports-follow i (call c) B cs p = refl
 
@@ -100,7 +100,7 @@ module _ (s : List ℕ) (checks : store_refusal s ≡ 0) (i : ℕ) (P : Port For
       let f = frame_of (read_frame frame) in
       report_eq ((call-answer s checks (register_frame (1 + i) frame)).number ∙ number-alone reads f B i P there) (sym (hearing-best B.site (1 + i) f P))
 
-  report_turn : (c : StoreCall) (rs : List Report) → noted (share_of (1 + i) c) (report_of i c s) rs ≡ noted (share_of (1 + i) c) (told (turn_at_lem i (event_at s c) B)) rs
+  report_turn : (c : StoreCall) (rs : List Report) → noted (share_of (1 + i) c) (report_of i c s) rs ≡ noted (share_of (1 + i) c) (told (turn_at i (event_at s c) B)) rs
   unfolding number age_port decide_port
   report_turn (fresh_start own any listed intervals) rs = refl
   report_turn (register_frame port frame) rs =
@@ -141,6 +141,6 @@ reports-turns s checks i P there (c ∷ cs) w g =
     let rest = reports-turns (exit_of c s) v.sound i (port_after i e (book_of s) P) next cs w.1 g.1
     ∙ ap (λ (D : Book ForeignAnnounceMessage). map told (reports reads i D ds)) v.book in
     report_turn s checks i P there c (reports_of i (exit_of c s) cs)
-    ∙ ap₂ (λ (x : PortCall ForeignAnnounceMessage) (l : List Report). noted x (told (turn_at_lem i e (book_of s))) l) (sym (share-same (1 + i) s c)) rest
-    ∙ sym (map-noted told (share_at (1 + i) e) (turn_at_lem i e (book_of s)) (reports reads i (step reads e (book_of s)) ds))
+    ∙ ap₂ (λ (x : PortCall ForeignAnnounceMessage) (l : List Report). noted x (told (turn_at i e (book_of s))) l) (sym (share-same (1 + i) s c)) rest
+    ∙ sym (map-noted told (share_at (1 + i) e) (turn_at i e (book_of s)) (reports reads i (step reads e (book_of s)) ds))
     ∙ ap (map told) (sym (reports-follow i e (book_of s) ds p))

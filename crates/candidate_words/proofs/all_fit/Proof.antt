@@ -7,14 +7,14 @@ use borrow.Author.Tests.{not-true, not-false}
 use native.Mathlib.Omega.{arith}
 use borrow.Author.Rules.{rules}
 use lib.ListN.{length, take, drop}
-use Rattle.candidate_words.specs.Words.{candidate_size, fits_candidate, fits_all_lem}
+use Rattle.candidate_words.specs.Words.{candidate_size, fits_candidate, fits_all}
 use Rattle.candidate_words.specs.Laws.{rest_fits, fits_all_lem, fits_next, fits-end}
 use Rattle.candidate_words.proofs.all_fit.Statement.{statement}
 use Rattle.candidate_words.proofs.all_fit.Tie as tie
 
 abbrev invariant-loop : tie.invariant-loop
 invariant-loop s n i₀ i =
-    (i ≤ n) × (n * candidate_size ≤ length s) × (fits_all_lem n s ≡ rest_fits n i s)
+    (i ≤ n) × (n * candidate_size ≤ length s) × (fits_all n s ≡ rest_fits n i s)
 
 abbrev decreases-loop : tie.decreases-loop
 decreases-loop s n i₀ i = n - i

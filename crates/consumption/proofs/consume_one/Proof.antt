@@ -9,14 +9,14 @@ use lib.ListN.{get_or}
 use Rattle.slot.specs.Blocks.{length-block, part-block, lent-block}
 use Rattle.book.specs.Layout.{master_words, master_at}
 use Rattle.offers.specs.Offers.{master_in}
-use Rattle.consumption.specs.Consume.{consumed, loses, consumed_at, gone_at_lem}
+use Rattle.consumption.specs.Consume.{consumed, loses, consumed_at, gone_at}
 use Rattle.consumption.specs.Words.{loses-won, loses_silent, loses-offered, at-lost, at-kept, put_less}
 use borrow.Author.Rules.{rules}
 use Rattle.consumption.proofs.consume_one.Statement.{statement}
 use Rattle.consumption.proofs.consume_one.Tie as tie
 
 -- a master that does not lose
-kept : (w i : ℕ) (p : List ℕ) → loses w p i ≡ false → (p ≡ consumed_at w i p) × (0 ≡ gone_at_lem w p i) × (0 ≤ 1)
+kept : (w i : ℕ) (p : List ℕ) → loses w p i ≡ false → (p ≡ consumed_at w i p) × (0 ≡ gone_at w p i) × (0 ≤ 1)
 kept w i p e = (sym (at-kept w i p e), sym (ap (λ (b : Bool). cond b 1 0) e), omega arith)
 
 returns : tie.Need-returns

@@ -6,7 +6,7 @@ use mathlib.Core.Bool.{Bool, cond}
 use mathlib.Core.List.{List}
 use native.Mathlib.Numerals.{add-one}
 use lib.ListN.{length, get_or}
-use Rattle.consumption.specs.Consume.{consumed_at, gone_at_lem, consumed_below, gone_below, consumed_in, gone_in}
+use Rattle.consumption.specs.Consume.{consumed_at, gone_at, consumed_below, gone_below, consumed_in, gone_in}
 use Rattle.consumption.specs.Words.{below-loses}
 use Rattle.consumption.proofs.consume_port.Statement.{statement}
 use Rattle.consumption.proofs.consume_port.Tie as tie
@@ -25,7 +25,7 @@ loop-again c =
     let w = a.winner in
     let p = a.port.now in
     let call = c.before.before.consume-one in
-    let same = ap (λ (q : List ℕ). gone_at_lem w q l.i) l.invariant.3 ∙ ap (λ (b : Bool). cond b 1 0) (below-loses w p l.i) in (
+    let same = ap (λ (q : List ℕ). gone_at w q l.i) l.invariant.3 ∙ ap (λ (b : Bool). cond b 1 0) (below-loses w p l.i) in (
       omega arith,
       call.auto.0 ∙ l.invariant.1,
       omega arith,

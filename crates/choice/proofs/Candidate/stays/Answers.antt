@@ -7,4 +7,4 @@ use Rattle.choice.proofs.Candidate.stays.Goals as goal
 
 pub returns : goal.returns
 unfolding stays
-returns c = c.is_Greater.ensures ∙ ap is_greater c.compare.ensures
+returns c = c.is_greater.ensures ∙ ap is_greater c.compare.ensures
