@@ -1,6 +1,6 @@
 -- A frame, checked in the order of paper 01.
 -- Assumes nothing.
-use Rattle.std.specs.Prelude.{ℕ, ◌+◌, ◌-◌, ◌%◌, List, cond, length, take, drop, eqb, leb}
+use Rattle.std.specs.Prelude.{ℕ, ◌-◌, ◌%◌, List, cond, length, take, drop, eqb, leb}
 use Rattle.std.proofs.Math.Option.{Option, none, some}
 use Rattle.wire.specs.Be.{be_at}
 use Rattle.wire.specs.Refusal.{on_zero}

@@ -1,6 +1,6 @@
 -- A list of TLVs as entries one after the other: the rule of a list takes exactly the bytes of such a list.
 -- Assumes nothing.
-use Rattle.std.specs.Prelude.{ℕ, zero, suc, ◌+◌, ◌-◌, ◌%◌, ◌≤◌, ◌<◌, ◌≡◌, refl, true}
+use Rattle.std.specs.Prelude.{ℕ, zero, suc, ◌+◌, ◌%◌, ◌≤◌, ◌<◌, ◌≡◌, refl, true}
 use Rattle.std.proofs.Common.{zero-le, sym, ◌∙◌, subst, not-suc-le-zero, arith, length-append, length-drop, take-append-drop, take_at, drop-drop, get_or-drop, length-take-le, eqb-true, eq-eqb}
 use Rattle.std.proofs.Math.Path.{ap, ap₂}
 use mathlib.Core.List.{List, [], ◌∷◌, ◌++◌, append_assoc}

@@ -1,6 +1,7 @@
 -- `tlv_type::TlvType::from_primitive` meets its contract: an arm of one number computes, and what is left is none of the numbers that have names.
 -- Assumes nothing.
 use Rattle.std.proofs.Common.{arith}
+use Rattle.std.proofs.lemmas.Bool.{ne_eqb}
 use Rattle.tlv_type.specs.Kind.{kind_of}
 use Rattle.tlv_type.proofs.TlvType.from_primitive.Goals as goal
 
@@ -94,4 +95,28 @@ returns-in-0 c = grind arith
 
 pub returns-in-0-2 : goal.returns-in-0-2
 unfolding kind_of
-returns-in-0-2 c = grind arith
+returns-in-0-2 c =
+    let n = c.args.value in
+    simp (
+      ne_eqb n 1 (λ e. omega arith),
+      ne_eqb n 2 (λ e. omega arith),
+      ne_eqb n 3 (λ e. omega arith),
+      ne_eqb n 4 (λ e. omega arith),
+      ne_eqb n 5 (λ e. omega arith),
+      ne_eqb n 6 (λ e. omega arith),
+      ne_eqb n 7 (λ e. omega arith),
+      ne_eqb n 8 (λ e. omega arith),
+      ne_eqb n 9 (λ e. omega arith),
+      ne_eqb n 16384 (λ e. omega arith),
+      ne_eqb n 16385 (λ e. omega arith),
+      ne_eqb n 32768 (λ e. omega arith),
+      ne_eqb n 32769 (λ e. omega arith),
+      ne_eqb n 32770 (λ e. omega arith),
+      ne_eqb n 32771 (λ e. omega arith),
+      ne_eqb n 32772 (λ e. omega arith),
+      ne_eqb n 32773 (λ e. omega arith),
+      ne_eqb n 32774 (λ e. omega arith),
+      ne_eqb n 32775 (λ e. omega arith),
+      ne_eqb n 32776 (λ e. omega arith),
+      ne_eqb n 32777 (λ e. omega arith),
+    )
