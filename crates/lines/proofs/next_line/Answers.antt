@@ -8,31 +8,39 @@ use Rattle.lines.proofs.next_line.Goals as goal
 pub returns-then-from-piece : goal.returns-then-from-piece
 returns-then-from-piece c =
     let a = c.args in
-    (rw (all-taken a.buffer.now a.count a.piece.now a.from c.if-from-piece.true) (refl, refl), tt)
+    record {
+      is = rw (all-taken a.buffer.now a.count a.piece.now a.from c.if-from-piece.true) (refl, refl);
+      within = tt;
+    }
 
 pub returns-then-end-piece : goal.returns-then-end-piece
 returns-then-end-piece c =
     let a = c.args in
     let k = c.keep-kept in
     let end = c.find_lf-end.result in
-    (rw (← k.ensures, all-taken k.new.buffer k.result a.piece.now end (omega arith)) (refl, refl), tt)
+    record {
+      is = rw (← k.ensures, all-taken k.new.buffer k.result a.piece.now end (omega arith)) (refl, refl);
+      within = tt;
+    }
 
 pub returns-then-kept-buffer : goal.returns-then-kept-buffer
 returns-then-kept-buffer c =
     let a = c.args in
     let k = c.keep-kept in
     let f = c.find_lf-end in
-    let e : length k.new.buffer ≡ length a.buffer.now = k.auto.buffer in (
-      rw (← k.ensures) (short-ends k.new.buffer k.result a.piece.now f.result (omega arith) (f.ensures.3 (omega arith)) (omega arith)),
-      (omega arith, omega arith, omega arith),
-    )
+    let e : length k.new.buffer ≡ length a.buffer.now = k.auto.buffer in
+    record {
+      is = rw (← k.ensures) (short-ends k.new.buffer k.result a.piece.now f.result (omega arith) (f.ensures.3 (omega arith)) (omega arith));
+      within = (omega arith, omega arith, omega arith);
+    }
 
 pub returns : goal.returns
 returns c =
     let a = c.args in
     let k = c.keep-kept in
     let f = c.find_lf-end in
-    let e : length k.new.buffer ≡ length a.buffer.now = k.auto.buffer in (
-      rw (← k.ensures) (long-ends k.new.buffer k.result a.piece.now f.result (omega arith) (f.ensures.3 (omega arith)) (omega arith)),
-      (omega arith, omega arith),
-    )
+    let e : length k.new.buffer ≡ length a.buffer.now = k.auto.buffer in
+    record {
+      is = rw (← k.ensures) (long-ends k.new.buffer k.result a.piece.now f.result (omega arith) (f.ensures.3 (omega arith)) (omega arith));
+      within = (omega arith, omega arith);
+    }

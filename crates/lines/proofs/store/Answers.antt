@@ -12,7 +12,7 @@ loop-at-init c = (refl, refl, omega arith, omega arith, omega arith)
 pub loop-at-preserved : goal.loop-at-preserved
 loop-at-preserved c =
     let l = c.loop-at in (
-      kept-one l.buffer l.auto _ l.at (omega arith) (c.requires.3 l.at (omega arith) (omega arith)) (omega arith) ∙ l.invariant.0,
+      kept-one l.buffer l.kept _ l.at (omega arith) (c.requires.3 l.at (omega arith) (omega arith)) (omega arith) ∙ l.invariant.0,
       simp length-set l.invariant.1,
       omega arith,
       omega arith,
