@@ -10,7 +10,7 @@ use std::io::{Read, Stdin};
 
 // Where a program stands in its input: the block holds `size` bytes, the first `at` of them are taken, and `count` bytes of an unfinished
 // line are kept.
-#[derive(Drop)]
+#[derive(Clone, Copy)]
 pub struct Place {
     pub count: usize,
     pub at: usize,
@@ -18,7 +18,7 @@ pub struct Place {
 }
 
 // What the input holds next: a line, whose bytes are the first `count` of the line buffer; a line longer than that buffer; or its end.
-#[derive(Drop)]
+#[derive(Clone, Copy)]
 pub enum Next {
     Line { count: usize, place: Place },
     TooLong { place: Place },

@@ -12,7 +12,7 @@ pub const STDOUT_FILENO: i32 = 1;
 
 // What the input holds next: a line, whose bytes are the first `count` of the buffer; a line that does not spell bytes for which there is
 // room; or its end.
-#[derive(Drop)]
+#[derive(Clone, Copy)]
 pub enum Next {
     Bytes { count: usize, place: Place },
     Bad { place: Place },
