@@ -1,16 +1,16 @@
-// A program's standard input, a line at a time. No contract can say what a C call read, so the contracts here say only bounds; what is cut
-// out of a block once it is read is said by the crate lines.
+// A program's standard input, a line at a time. No contract can say what the system gives, so the contracts here say only bounds; what is
+// cut out of a block once it is read is said by the crate lines.
 #![tactic(auto)]
 
 ghost use Rattle.std.specs.Prelude.{◌≤◌, length};
 ghost use Rattle.lines.specs.Lines.{CutWithin};
 ghost use Rattle.input.specs.Within.{NextWithin};
 
-use libc::STDIN_FILENO;
+use std::io::{Read, Stdin};
 
 // Where a program stands in its input: the block holds `size` bytes, the first `at` of them are taken, and `count` bytes of an unfinished
 // line are kept.
-#[derive(Drop)]
+#[derive(Clone, Copy)]
 pub struct Place {
     pub count: usize,
     pub at: usize,
@@ -18,7 +18,7 @@ pub struct Place {
 }
 
 // What the input holds next: a line, whose bytes are the first `count` of the line buffer; a line longer than that buffer; or its end.
-#[derive(Drop)]
+#[derive(Clone, Copy)]
 pub enum Next {
     Line { count: usize, place: Place },
     TooLong { place: Place },
@@ -37,11 +37,13 @@ impl Place {
 }
 
 // Reads a block: how many bytes came, 0 at the end of the input and where the read fails.
-fn read_block(block: &mut [u8]) -> usize
+fn read_block(mut stdin: Stdin, block: &mut [u8]) -> usize
     ensures { result ≤ length block.old }
 {
-    let got = libc::read(STDIN_FILENO, block);
-    io::count(got, block)
+    match stdin.read(block) {
+        Ok(count) => count,
+        Err(_) => 0,
+    }
 }
 
 // How many bytes the block holds, where `size` are said: no more than it has.
@@ -80,7 +82,7 @@ fn last(line: &[u8], count: usize) -> Next
 
 // Reads blocks until a line is complete. A proved loop has to end, and nothing says that a line does: the turns are counted down from a
 // number that no run uses up.
-fn read_line(place: Place, block: &mut [u8], line: &mut [u8]) -> Next
+fn read_line(stdin: Stdin, place: Place, block: &mut [u8], line: &mut [u8]) -> Next
     requires { place.size ≤ length block.old }
     ensures { NextWithin (length line.old) result }
 {
@@ -113,7 +115,7 @@ fn read_line(place: Place, block: &mut [u8], line: &mut [u8]) -> Next
                 count = kept;
             }
         }
-        size = read_block(block);
+        size = read_block(stdin, block);
         if size == 0 {
             return last(line, count);
         }
@@ -125,11 +127,11 @@ fn read_line(place: Place, block: &mut [u8], line: &mut [u8]) -> Next
 
 // Reads the next line of standard input. A line ends at LF or at the end of the input, and a final LF opens no line; a read that fails
 // counts as the end. A place whose size is above the block's length counts as one at which the block is full.
-pub fn next_line(place: Place, block: &mut [u8], line: &mut [u8]) -> Next
+pub fn next_line(stdin: Stdin, place: Place, block: &mut [u8], line: &mut [u8]) -> Next
     ensures within { NextWithin (length line.old) result }
 {
     let count = place.count;
     let at = place.at;
     let size = held(block, place.size);
-    read_line(Place { count, at, size }, block, line)
+    read_line(stdin, Place { count, at, size }, block, line)
 }

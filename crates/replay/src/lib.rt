@@ -5,11 +5,14 @@ ghost use Rattle.std.specs.Prelude.{◌≤◌, length};
 ghost use Rattle.replay.specs.Within.{NextWithin};
 
 use input::Place;
-use libc::STDOUT_FILENO;
+use std::io::Stdin;
+
+// Standard output, as the calls that write name it.
+pub const STDOUT_FILENO: i32 = 1;
 
 // What the input holds next: a line, whose bytes are the first `count` of the buffer; a line that does not spell bytes for which there is
 // room; or its end.
-#[derive(Drop)]
+#[derive(Clone, Copy)]
 pub enum Next {
     Bytes { count: usize, place: Place },
     Bad { place: Place },
@@ -28,10 +31,16 @@ fn decoded(line: &[u8], n: usize, bytes: &mut [u8], place: Place) -> Next
 }
 
 // Reads the next line of standard input, hexadecimal digits of either case, as bytes.
-pub fn next_bytes(place: Place, block: &mut [u8], line: &mut [u8], bytes: &mut [u8]) -> Next
+pub fn next_bytes(
+    stdin: Stdin,
+    place: Place,
+    block: &mut [u8],
+    line: &mut [u8],
+    bytes: &mut [u8],
+) -> Next
     ensures { NextWithin (length bytes.old) result }
 {
-    match input::next_line(place, block, line) {
+    match input::next_line(stdin, place, block, line) {
         input::Next::Line { count, place: next } => decoded(line, count, bytes, next),
         input::Next::TooLong { place: next } => Next::Bad { place: next },
         input::Next::End => Next::End,

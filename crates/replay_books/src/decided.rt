@@ -6,7 +6,7 @@ use announce::AnnounceMessage;
 use bmca::Decision;
 use compare::InternalDefaultDS;
 use decision::RecommendedState;
-use libc::STDOUT_FILENO;
+use replay::STDOUT_FILENO;
 use states::PortAnswer;
 
 // Writes all of our own data.

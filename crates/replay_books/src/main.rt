@@ -13,6 +13,7 @@ use book::STORE_WORDS;
 use foreign_master::{Answer, Tallies};
 use input::Place;
 use replay::Next;
+use std::io::Stdin;
 
 // The longest line.
 const MAX_LINE: usize = 2048;
@@ -297,13 +298,13 @@ fn is_end(next: Next) -> bool {
 
 // Answers each line of the input. A proved loop has to end, and nothing says that the input does: the turns are counted down from a number
 // that no run uses up.
-fn run(store: &mut [u64], block: &mut [u8], line: &mut [u8], bytes: &mut [u8])
+fn run(stdin: Stdin, store: &mut [u64], block: &mut [u8], line: &mut [u8], bytes: &mut [u8])
     requires { 6580 ≤ length store.old }
 {
     let mut place = Place::start();
     let mut turns = u64::MAX;
     while turns > 0 {
-        let next = replay::next_bytes(place, block, line, bytes);
+        let next = replay::next_bytes(stdin, place, block, line, bytes);
         if is_end(next) {
             return;
         }
@@ -313,10 +314,10 @@ fn run(store: &mut [u64], block: &mut [u8], line: &mut [u8], bytes: &mut [u8])
     }
 }
 
-fn main() {
+fn main(rt: HostRuntime) {
     let mut store = [0u64; STORE_WORDS];
     let mut block = io::large_buffer();
     let mut line = io::buffer();
     let mut bytes = [0u8; MAX_LINE];
-    run(&mut store, &mut block, &mut line, &mut bytes);
+    run(rt.stdin(), &mut store, &mut block, &mut line, &mut bytes);
 }

@@ -5,7 +5,7 @@ use announce::AnnounceMessage;
 use book::{HEAD_WORDS, MASTER_WORDS, PORT_WORDS};
 use frame::TLV_START;
 use header::PortIdentity;
-use libc::STDOUT_FILENO;
+use replay::STDOUT_FILENO;
 use slot::SLOT_WORDS;
 
 // Writes digits with no space before them.

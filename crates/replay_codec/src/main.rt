@@ -7,6 +7,7 @@ ghost use Rattle.std.specs.Prelude.{◌≤◌, length};
 use announce::{AnnounceMessage, AnnounceRead, CONTENT_SIZE};
 use header::{DeserializedHeader, HEADER_SIZE, Header, HeaderRead};
 use replay::{print, print_bytes, print_flag, print8, print16};
+use std::io::Stdin;
 
 // The number of an announce.
 const ANNOUNCE: u8 = 0xb;
@@ -143,11 +144,11 @@ fn answer(bytes: &[u8], n: usize)
 
 // Answers each line of the input. A proved loop has to end, and nothing says that the input does: the turns are counted down from a number
 // that no run uses up.
-fn run(block: &mut [u8], line: &mut [u8], bytes: &mut [u8]) {
+fn run(stdin: Stdin, block: &mut [u8], line: &mut [u8], bytes: &mut [u8]) {
     let mut place = input::Place::start();
     let mut turns = u64::MAX;
     while turns > 0 {
-        match replay::next_bytes(place, block, line, bytes) {
+        match replay::next_bytes(stdin, place, block, line, bytes) {
             replay::Next::Bytes { count, place: next } => {
                 answer(bytes, count);
                 place = next;
@@ -164,9 +165,9 @@ fn run(block: &mut [u8], line: &mut [u8], bytes: &mut [u8]) {
     }
 }
 
-fn main() {
+fn main(rt: HostRuntime) {
     let mut block = io::large_buffer();
     let mut line = io::buffer();
     let mut bytes = [0u8; MAX_FRAME];
-    run(&mut block, &mut line, &mut bytes);
+    run(rt.stdin(), &mut block, &mut line, &mut bytes);
 }

@@ -11,6 +11,7 @@ use choice::Best;
 use compare::{ComparisonDataset, InternalDefaultDS};
 use decision::BestMessage;
 use records::{CANDIDATE_SIZE, MAX_CANDIDATES, OWN_SIZE, OptionRead, SET_SIZE};
+use std::io::Stdin;
 
 // The longest line.
 const MAX_LINE: usize = 2048;
@@ -231,11 +232,11 @@ fn answer(bytes: &[u8], n: usize)
 
 // Answers each line of the input. A proved loop has to end, and nothing says that the input does: the turns are counted down from a number
 // that no run uses up.
-fn run(block: &mut [u8], line: &mut [u8], bytes: &mut [u8]) {
+fn run(stdin: Stdin, block: &mut [u8], line: &mut [u8], bytes: &mut [u8]) {
     let mut place = input::Place::start();
     let mut turns = u64::MAX;
     while turns > 0 {
-        match replay::next_bytes(place, block, line, bytes) {
+        match replay::next_bytes(stdin, place, block, line, bytes) {
             replay::Next::Bytes { count, place: next } => {
                 answer(bytes, count);
                 place = next;
@@ -252,9 +253,9 @@ fn run(block: &mut [u8], line: &mut [u8], bytes: &mut [u8]) {
     }
 }
 
-fn main() {
+fn main(rt: HostRuntime) {
     let mut block = io::large_buffer();
     let mut line = io::buffer();
     let mut bytes = [0u8; MAX_LINE];
-    run(&mut block, &mut line, &mut bytes);
+    run(rt.stdin(), &mut block, &mut line, &mut bytes);
 }

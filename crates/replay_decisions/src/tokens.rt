@@ -4,8 +4,7 @@ use choice::Best;
 use compare::{DatasetOrdering, InternalDefaultDS};
 use decision::{BestMessage, RecommendedState};
 use frame::TLV_START;
-use libc::STDOUT_FILENO;
-use replay::print16;
+use replay::{STDOUT_FILENO, print16};
 use states::PortAnswer;
 
 // Writes digits with no space before them.

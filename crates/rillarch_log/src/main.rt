@@ -1,5 +1,5 @@
 // The log program: lines of hexadecimal digits on standard input, the line of each answer on standard output. No contract can say what
-// a C call reads or writes, so the contracts here say bounds only, and that the store is sound once something is set up; how the input
+// the system gives or takes, so the contracts here say bounds only, and that the store is sound once something is set up; how the input
 // is cut and answered is said by the crate log_piece.
 #![tactic(auto)]
 
@@ -8,9 +8,15 @@ ghost use Rattle.log_answer.specs.Answer.{Known};
 ghost use Rattle.log_step.specs.Piece.{StepWithin, StepKnown};
 
 use book::STORE_WORDS;
-use libc::{STDERR_FILENO, STDIN_FILENO, STDOUT_FILENO};
 use log_answer::Setup;
 use log_step::{Rest, Step};
+use std::io::{Read, Stdin};
+
+// Standard output, as the calls that write name it.
+const STDOUT_FILENO: i32 = 1;
+
+// Standard error.
+const STDERR_FILENO: i32 = 2;
 
 // Where the program stands: what is set up, how many bytes of the unfinished line are kept, how many of the output wait to be written,
 // and whether all writes were done.
@@ -136,22 +142,24 @@ fn finish(store: &mut [u64], place: Place, line: &[u8], out: &mut [u8]) -> bool
 }
 
 // Reads a block: how many bytes came, 0 at the end of the input and where the read fails.
-fn read_block(block: &mut [u8]) -> usize
+fn read_block(mut stdin: Stdin, block: &mut [u8]) -> usize
     ensures { result ≤ length block.old }
 {
-    let got = libc::read(STDIN_FILENO, block);
-    io::count(got, block)
+    match stdin.read(block) {
+        Ok(count) => count,
+        Err(_) => 0,
+    }
 }
 
 // Answers the input. A proved loop has to end, and nothing says that the input does: the turns are counted down from a number that no
 // run uses up. A write that fails ends it.
-fn run(store: &mut [u64], block: &mut [u8], line: &mut [u8], out: &mut [u8]) -> bool {
+fn run(stdin: Stdin, store: &mut [u64], block: &mut [u8], line: &mut [u8], out: &mut [u8]) -> bool {
     let mut setup = Setup::none();
     let mut count = 0;
     let mut used = 0;
     let mut turns = u64::MAX;
     while turns > 0 {
-        let n = read_block(block);
+        let n = read_block(stdin, block);
         if n == 0 {
             return finish(
                 store,
@@ -189,12 +197,12 @@ fn run(store: &mut [u64], block: &mut [u8], line: &mut [u8], out: &mut [u8]) -> 
     false
 }
 
-fn main() {
+fn main(rt: HostRuntime) {
     let mut store = [0u64; STORE_WORDS];
     let mut block = io::large_buffer();
     let mut out = io::large_buffer();
     let mut line = io::buffer();
-    if !run(&mut store, &mut block, &mut line, &mut out) {
+    if !run(rt.stdin(), &mut store, &mut block, &mut line, &mut out) {
         io::write_all(STDERR_FILENO, b"rillarch_log: writing failed\n");
     }
 }

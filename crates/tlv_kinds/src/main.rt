@@ -2,12 +2,11 @@
 // kinds.
 #![tactic(auto)]
 
-use libc::STDOUT_FILENO;
-use replay::{print_flag, print8, print16};
+use replay::{STDOUT_FILENO, print_flag, print8, print16};
 use tlv_type::TlvType;
 
 // What is told of a number: the code of its name, whether it is passed on, and whether its kind has the same number.
-#[derive(Drop)]
+#[derive(Clone, Copy)]
 struct Kind {
     code: u8,
     passed_on: bool,

@@ -1,25 +1,16 @@
 -- `lines::keep` meets its contract: what does not fit is passed by. Assumes nothing.
 use Prim.Native.Nat.{ℕ, ◌+◌, ◌-◌}
-use mathlib.Core.Path.{◌≡◌, refl, sym, ap, ◌∙◌}
+use mathlib.Core.Path.{◌≡◌, sym, ap, ◌∙◌}
 use native.Mathlib.Omega.{arith}
 use lib.ListN.{length}
 use Rattle.lines.specs.Lines.{next_line}
 use Rattle.lines.specs.Turns.{passed_to}
 use Rattle.lines.proofs.keep.Goals as goal
 
-pub returns-then-n-eq0 : goal.returns-then-n-eq0
-returns-then-n-eq0 c =
-    let a = c.args in
-    let e : a.end ≡ a.from = omega arith in
-    rw e refl
-
 pub returns-then-count-limit : goal.returns-then-count-limit
 returns-then-count-limit c =
     let s = c in
     passed_to s.args.buffer.now s.args.count s.args.piece.now s.args.from s.args.end (omega arith) s.requires.1 s.requires.2 (omega arith)
-
-pub store-requires : goal.store-requires
-store-requires c = (omega arith, omega arith, omega arith, λ i a b. c.requires.2 i a (omega arith))
 
 pub returns-then-n-limit : goal.returns-then-n-limit
 returns-then-n-limit c =

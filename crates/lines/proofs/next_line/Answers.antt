@@ -5,34 +5,30 @@ use lib.ListN.{length}
 use Rattle.lines.specs.Turns.{all-taken, short-ends, long-ends}
 use Rattle.lines.proofs.next_line.Goals as goal
 
-pub returns-then-from-piece : goal.returns-then-from-piece
-returns-then-from-piece c =
+pub returns-then-from-piece-clause-is : goal.returns-then-from-piece-clause-is
+returns-then-from-piece-clause-is c =
     let a = c.args in
-    (rw (all-taken a.buffer.now a.count a.piece.now a.from c.if-from-piece.true) (refl, refl), tt)
+    rw (all-taken a.buffer.now a.count a.piece.now a.from c.if-from-piece.true) (refl, refl)
 
-pub returns-then-end-piece : goal.returns-then-end-piece
-returns-then-end-piece c =
+pub returns-then-end-piece-clause-is : goal.returns-then-end-piece-clause-is
+returns-then-end-piece-clause-is c =
     let a = c.args in
     let k = c.keep-kept in
     let end = c.find_lf-end.result in
-    (rw (← k.ensures, all-taken k.new.buffer k.result a.piece.now end (omega arith)) (refl, refl), tt)
+    rw (← k.ensures, all-taken k.new.buffer k.result a.piece.now end (omega arith)) (refl, refl)
 
-pub returns-then-kept-buffer : goal.returns-then-kept-buffer
-returns-then-kept-buffer c =
+pub returns-then-kept-buffer-clause-is : goal.returns-then-kept-buffer-clause-is
+returns-then-kept-buffer-clause-is c =
     let a = c.args in
     let k = c.keep-kept in
     let f = c.find_lf-end in
-    let e : length k.new.buffer ≡ length a.buffer.now = k.auto.buffer in (
-      rw (← k.ensures) (short-ends k.new.buffer k.result a.piece.now f.result (omega arith) (f.ensures.3 (omega arith)) (omega arith)),
-      (omega arith, omega arith, omega arith),
-    )
+    let e : length k.new.buffer ≡ length a.buffer.now = k.auto.buffer in
+    rw (← k.ensures) (short-ends k.new.buffer k.result a.piece.now f.result (omega arith) (f.ensures.3 (omega arith)) (omega arith))
 
-pub returns : goal.returns
-returns c =
+pub returns-clause-is : goal.returns-clause-is
+returns-clause-is c =
     let a = c.args in
     let k = c.keep-kept in
     let f = c.find_lf-end in
-    let e : length k.new.buffer ≡ length a.buffer.now = k.auto.buffer in (
-      rw (← k.ensures) (long-ends k.new.buffer k.result a.piece.now f.result (omega arith) (f.ensures.3 (omega arith)) (omega arith)),
-      (omega arith, omega arith),
-    )
+    let e : length k.new.buffer ≡ length a.buffer.now = k.auto.buffer in
+    rw (← k.ensures) (long-ends k.new.buffer k.result a.piece.now f.result (omega arith) (f.ensures.3 (omega arith)) (omega arith))

