@@ -1,5 +1,5 @@
 /*
- * The calls of target/staticlib/librillarch.a, which `rt staticlib rillarch` proves and builds.
+ * The calls of target/staticlib/librillarch.a, which `tools/build library` proves and builds.
  *
  * Every call ends on any bytes and any numbers, keeps no state of its own, allocates nothing, and may be made from any
  * thread as long as what it writes is lent to it alone. A slice is lent as a pointer and a count of its elements; a count of 0 is

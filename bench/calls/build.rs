@@ -1,4 +1,4 @@
-//! Links target/staticlib/librillarch.a, which `rt staticlib rillarch` writes, and the crate's own code where bench/run has built it.
+//! Links target/staticlib/librillarch.a, which `tools/build library` writes, and the crate's own code where bench/run has built it.
 use std::path::Path;
 
 fn main() {

@@ -1,4 +1,4 @@
-//! Links target/staticlib/librillarch.a of the repository, which `rt staticlib rillarch` writes.
+//! Links target/staticlib/librillarch.a of the repository, which `tools/build library` writes.
 use std::path::Path;
 use std::process::exit;
 
@@ -10,7 +10,7 @@ fn main() {
     println!("cargo:rerun-if-changed={}", library.display());
     if !library.is_file() {
         eprintln!(
-            "rillarch: {} is missing: `rt staticlib rillarch` in {} proves and builds it",
+            "rillarch: {} is missing: `tools/build library` in {} proves and builds it",
             library.display(),
             root.display()
         );

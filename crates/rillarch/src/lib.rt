@@ -1,6 +1,6 @@
-// The calls for a program in C or Rust, by include/rillarch.h: slices and numbers go in, the result is paper 01's number, and what is
-// answered goes into the first words of a lent slice. They ask nothing. An answer that is lent too short is 1 before all else; a
-// refusal changes nothing.
+// The calls that a program in C or Rust links, which the crate rillarch_c exports: slices and numbers go in, the result is paper 01's
+// number, and what is answered goes into the first words of a lent slice. They ask nothing. An answer that is lent too short is 1
+// before all else; a refusal changes nothing.
 #![tactic(auto)]
 
 ghost use Rattle.std.specs.Prelude.{◌≡◌, length};
@@ -45,24 +45,21 @@ use announce::ClockQuality;
 use tlv::TlvCursor;
 
 // How many words a store must have.
-#[unsafe(no_mangle)]
-pub extern "C" fn rillarch_store_words() -> u32
+pub fn rillarch_store_words() -> u32
     ensures { result ≡ store_words }
 {
     book::STORE_WORDS as u32
 }
 
 // 1 where the store is too short, 16 where its book is unsound, else 0.
-#[unsafe(no_mangle)]
-pub extern "C" fn rillarch_check(store: &[u64]) -> u32
+pub fn rillarch_check(store: &[u64]) -> u32
     ensures { result ≡ store_refusal store.now }
 {
     book::check(store) as u32
 }
 
 // Starts afresh, as foreign_master::fresh_start does; any master is acceptable where `any` is not 0.
-#[unsafe(no_mangle)]
-pub extern "C" fn rillarch_fresh_start(
+pub fn rillarch_fresh_start(
     store: &mut [u64],
     own_clock: u64,
     any: u8,
@@ -76,13 +73,7 @@ pub extern "C" fn rillarch_fresh_start(
 }
 
 // Registers the frame that a port received, as foreign_master::register_announce_message does.
-#[unsafe(no_mangle)]
-pub extern "C" fn rillarch_register(
-    store: &mut [u64],
-    port: u16,
-    frame: &[u8],
-    answer: &mut [u64],
-) -> u32
+pub fn rillarch_register(store: &mut [u64], port: u16, frame: &[u8], answer: &mut [u64]) -> u32
     ensures value { result ≡ lent tally_size answer.old 1 (answer_number (register_answer store.old port frame.now)) }
     ensures store_after { store.new ≡ lent tally_size answer.old store.old (register_exit store.old port frame.now) }
     ensures answer_after { answer.new ≡ lent tally_size answer.old answer.old (put answer.old 0 (answer_words (register_answer store.old port frame.now))) }
@@ -97,8 +88,7 @@ pub extern "C" fn rillarch_register(
 }
 
 // Makes every message older by a step, as foreign_master::step_age does.
-#[unsafe(no_mangle)]
-pub extern "C" fn rillarch_age(store: &mut [u64], step: u64, answer: &mut [u64]) -> u32
+pub fn rillarch_age(store: &mut [u64], step: u64, answer: &mut [u64]) -> u32
     ensures value { result ≡ lent tally_size answer.old 1 (answer_number (age_answer store.old step)) }
     ensures store_after { store.new ≡ lent tally_size answer.old store.old (age_exit store.old step) }
     ensures answer_after { answer.new ≡ lent tally_size answer.old answer.old (put answer.old 0 (answer_words (age_answer store.old step))) }
@@ -110,8 +100,7 @@ pub extern "C" fn rillarch_age(store: &mut [u64], step: u64, answer: &mut [u64])
 }
 
 // Decides for all ports, as bmca::decide does.
-#[unsafe(no_mangle)]
-pub extern "C" fn rillarch_decide(
+pub fn rillarch_decide(
     store: &mut [u64],
     priority_1: u8,
     class: u8,
@@ -140,8 +129,7 @@ pub extern "C" fn rillarch_decide(
 }
 
 // The candidate at a place of the book's candidates, as candidates::candidate has it.
-#[unsafe(no_mangle)]
-pub extern "C" fn rillarch_candidate(store: &[u64], place: u64, answer: &mut [u64]) -> u32
+pub fn rillarch_candidate(store: &[u64], place: u64, answer: &mut [u64]) -> u32
     ensures value { result ≡ lent found_size answer.old 1 (candidate_number (candidate_answer store.now place)) }
     ensures answer_after { answer.new ≡ lent found_size answer.old answer.old (put answer.old 0 (candidate_told (candidate_answer store.now place))) }
 {
@@ -153,8 +141,7 @@ pub extern "C" fn rillarch_candidate(store: &[u64], place: u64, answer: &mut [u6
 
 // The verdict on the left of two candidates: 1 where the left, then where the right has too few words, each then 15 where a word does
 // not fit its field.
-#[unsafe(no_mangle)]
-pub extern "C" fn rillarch_compare(left: &[u64], right: &[u64], answer: &mut [u64]) -> u32
+pub fn rillarch_compare(left: &[u64], right: &[u64], answer: &mut [u64]) -> u32
     ensures value { result ≡ lent 1 answer.old 1 (compare_number left.now right.now) }
     ensures answer_after { answer.new ≡ lent 1 answer.old answer.old (put answer.old 0 (compare_words left.now right.now)) }
 {
@@ -176,8 +163,7 @@ pub extern "C" fn rillarch_compare(left: &[u64], right: &[u64], answer: &mut [u6
 }
 
 // The choice over a list of candidates, as find_best::find_best makes it.
-#[unsafe(no_mangle)]
-pub extern "C" fn rillarch_choose(candidates: &[u64], answer: &mut [u64]) -> u32
+pub fn rillarch_choose(candidates: &[u64], answer: &mut [u64]) -> u32
     ensures value { result ≡ lent found_size answer.old 1 (choose_number candidates.now) }
     ensures answer_after { answer.new ≡ lent found_size answer.old answer.old (put answer.old 0 (choose_words candidates.now)) }
 {
@@ -192,8 +178,7 @@ pub extern "C" fn rillarch_choose(candidates: &[u64], answer: &mut [u64]) -> u32
 }
 
 // Reads a frame, as frame::read_frame does.
-#[unsafe(no_mangle)]
-pub extern "C" fn rillarch_read_frame(frame: &[u8], answer: &mut [u64]) -> u32
+pub fn rillarch_read_frame(frame: &[u8], answer: &mut [u64]) -> u32
     ensures value { result ≡ lent frame_size answer.old 1 (frame_number (read_frame frame.now)) }
     ensures answer_after { answer.new ≡ lent frame_size answer.old answer.old (put answer.old 0 (frame_words (read_frame frame.now))) }
 {
@@ -205,8 +190,7 @@ pub extern "C" fn rillarch_read_frame(frame: &[u8], answer: &mut [u64]) -> u32
 
 // Writes an announce with its TLVs, as frame_writer::write_frame does: before that 1 where there are too few words, then 15 where a word does
 // not fit its field.
-#[unsafe(no_mangle)]
-pub extern "C" fn rillarch_write_announce(announce: &[u64], tlvs: &[u8], buffer: &mut [u8]) -> u32
+pub fn rillarch_write_announce(announce: &[u64], tlvs: &[u8], buffer: &mut [u8]) -> u32
     ensures value { result ≡ write_number announce.now tlvs.now buffer.old }
     ensures buffer_after { buffer.new ≡ write_exit announce.now tlvs.now buffer.old }
 {
@@ -218,8 +202,7 @@ pub extern "C" fn rillarch_write_announce(announce: &[u64], tlvs: &[u8], buffer:
 }
 
 // The entry at a place of a list of TLVs, as TlvCursor::next reads it: later ones are not looked at.
-#[unsafe(no_mangle)]
-pub extern "C" fn rillarch_tlv_entry(tlvs: &[u8], place: u64, answer: &mut [u64]) -> u32
+pub fn rillarch_tlv_entry(tlvs: &[u8], place: u64, answer: &mut [u64]) -> u32
     ensures value { result ≡ lent tlv_size answer.old 1 (tlv_number (read_at tlvs.now place)) }
     ensures answer_after { answer.new ≡ lent tlv_size answer.old answer.old (put answer.old 0 (tlv_words (read_at tlvs.now place))) }
 {
