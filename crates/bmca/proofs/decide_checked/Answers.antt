@@ -1,0 +1,51 @@
+-- `bmca::decide_checked` meets its contract. Assumes nothing.
+use native.Mathlib.Omega.{arith}
+use mathlib.Core.Path.{◌≡◌, sym, ap, ◌∙◌}
+use lib.ListN.{get_or}
+use Rattle.compare.specs.declared.InternalDefaultDS.{InternalDefaultDS}
+use Rattle.book.specs.Layout.{site_of, book_of}
+use Rattle.book.specs.Rules.{checked, store_refusal}
+use Rattle.bmca.specs.declared.Plan.{Plan}
+use Rattle.bmca.specs.Decide.{consuming_of}
+use Rattle.bmca.specs.Plan.{answers_in}
+use Rattle.bmca.specs.Laws.{refused, done}
+use Rattle.bmca.proofs.decide_checked.Goals as goal
+
+pub returns-then-checked-ne0 : goal.returns-then-checked-ne0
+returns-then-checked-ne0 c =
+    let a = c.args in
+    let no = refused a.store.now a.priority_1 a.quality a.priority_2 a.listening a.checked c.requires c.if-checked-ne0.true in
+    record { value = c.refused.ensures ∙ no.0; store_after = no.1 }
+
+pub bounds-store-1 : goal.bounds-store-1
+bounds-store-1 c = omega (arith, (checked c.args.store.now (sym c.requires ∙ c.if-checked-ne0.false)).room)
+
+pub plan_of-plan-requires : goal.plan_of-plan-requires
+plan_of-plan-requires c =
+    let s = checked c.args.store.now (sym c.requires ∙ c.if-checked-ne0.false) in
+    (s.room, s.sound)
+
+pub answers_of-answers-requires : goal.answers_of-answers-requires
+answers_of-answers-requires c =
+    let s = checked c.args.store.now (sym c.requires ∙ c.if-checked-ne0.false) in
+    let plan = c.plan_of-plan.ensures in
+    (s.room, s.sound, (ap (λ (p : Plan). p.best) plan, ap (λ (p : Plan). p.winners) plan))
+
+pub consume-consumed-requires : goal.consume-consumed-requires
+consume-consumed-requires c =
+    let s = checked c.args.store.now (sym c.requires ∙ c.if-checked-ne0.false) in
+    (s.room, s.sound, ap (λ (p : Plan). p.winners) c.plan_of-plan.ensures)
+
+pub returns : goal.returns
+unfolding book_of site_of
+returns c =
+    let a = c.args in
+    let s = a.store.now in
+    let checks : store_refusal s ≡ 0 = sym c.requires ∙ c.if-checked-ne0.false in
+    let own : InternalDefaultDS =
+    record { clock_identity = get_or s 1 0; clock_quality = a.quality; priority_1 = a.priority_1; priority_2 = a.priority_2 } in
+    let plan = c.plan_of-plan.ensures in
+    let answers = c.answers_of-answers.ensures ∙ ap (answers_in s own) plan in
+    let call = c.consume-consumed.ensures in
+    let yes = done s a.priority_1 a.quality a.priority_2 a.listening checks in
+    record { value = (λ i. record { number = 0; ports = (plan i).ports; answers = answers i; tallies = (c.consuming.ensures ∙ ap consuming_of call.1) i }) ∙ yes.0; store_after = call.0 ∙ yes.1 }
