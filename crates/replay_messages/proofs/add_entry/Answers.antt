@@ -1,0 +1,7 @@
+-- `replay_messages::add_entry` meets its contract: a builder that takes an entry stays within the buffer. Assumes nothing.
+use Rattle.std.proofs.Common.{sym, ◌∙◌, arith}
+use Rattle.tlv_builder.specs.BuilderLaws.{added_within}
+use Rattle.replay_messages.proofs.add_entry.Goals as goal
+
+pub returns-in-Done : goal.returns-in-Done
+returns-in-Done c = omega (arith, added_within _ _ _ _ (sym c.add.ensures.0 ∙ c.in-Done.is))
