@@ -1,6 +1,6 @@
 -- What is told, by its bytes, for the proofs of the code.
 -- Assumes nothing.
-use Rattle.std.specs.Prelude.{ℕ, zero, suc, ◌+◌, ◌-◌, ◌*◌, ◌≤◌, ◌<◌, ◌≡◌, refl, take, drop, get_or, set}
+use Rattle.std.specs.Prelude.{ℕ, zero, suc, ◌+◌, ◌*◌, ◌≤◌, ◌<◌, ◌≡◌, refl, take, drop, get_or, set}
 use Rattle.std.proofs.Math.Path.{sym, ap}
 use Rattle.std.proofs.Common.{◌∙◌, subst, add-one, arith, length-append, length-take-le, drop-cons, get_or-take}
 use mathlib.Core.List.{List, [], ◌∷◌, map}
