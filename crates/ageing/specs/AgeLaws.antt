@@ -6,8 +6,8 @@ use Rattle.std.proofs.lemmas.Bool.{lt-leb}
 use Rattle.std.proofs.Math.Seq.{paste}
 use Rattle.std.proofs.lemmas.List.Edits.{drop-paste}
 use Rattle.wire.specs.Be.{put}
-use Rattle.wire.specs.BeLaws.{length-put, get_d_put-before}
-use Rattle.slot.specs.Blocks.{block, length-block, get_d_block, grid-same, grid-other}
+use Rattle.wire.proofs.BeLaws.{length-put, get_or-put_before}
+use Rattle.slot.specs.Blocks.{block, length-block, get_or-block, grid-same, grid-other}
 use Rattle.history.specs.Rules.{masters_max}
 use Rattle.history.specs.Port.{young}
 use Rattle.book.specs.Below.{first-le}
@@ -75,13 +75,13 @@ length-aged_master step limit w = simp length-set (length-older_to step (slice_i
 pub is-empty : (p : List ℕ) (i : ℕ) → slice_index p (master_at i + 3) < 1 → occupied p i ≡ false
 unfolding occupied
 is-empty p i l =
-    ap (λ (x : ℕ). nat_le 1 x) (get_d_block p (master_at i) master_words 3 (omega arith)) ∙ lt-leb 1 (slice_index p (master_at i + 3)) l
+    ap (λ (x : ℕ). nat_le 1 x) (get_or-block p (master_at i) master_words 3 (omega arith)) ∙ lt-leb 1 (slice_index p (master_at i + 3)) l
 
 -- and it has one
 pub not-empty : (p : List ℕ) (i : ℕ) → 1 ≤ slice_index p (master_at i + 3) → occupied p i ≡ true
 unfolding occupied
 not-empty p i l =
-    ap (λ (x : ℕ). nat_le 1 x) (get_d_block p (master_at i) master_words 3 (omega arith)) ∙ le-leb 1 (slice_index p (master_at i + 3)) l
+    ap (λ (x : ℕ). nat_le 1 x) (get_or-block p (master_at i) master_words 3 (omega arith)) ∙ le-leb 1 (slice_index p (master_at i + 3)) l
 
 -- an empty master is passed over
 pub pack-empty : (i : ℕ) (s : Packing) → occupied s.words i ≡ false → s ≡ pack_step i s
@@ -121,7 +121,7 @@ module _ (step limit : ℕ) (p : List ℕ) (size : length p ≡ port_words) wher
   pub aged_to-word : (n j : ℕ) → n ≤ masters_max → j < 4 → slice_index (so_far n) j ≡ slice_index p j
   aged_to-word zero j h l = refl
   aged_to-word (suc n) j h l =
-      get_d_put-before (so_far n) (master_at n) (next-block n) j (omega arith) (omega (arith, length-aged_to n (omega arith)))
+      get_or-put_before (so_far n) (master_at n) (next-block n) j (omega arith) (omega (arith, length-aged_to n (omega arith)))
       ∙ aged_to-word n j (omega arith) l
 
   -- and the masters still to come

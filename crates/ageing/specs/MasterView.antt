@@ -18,7 +18,8 @@ use Rattle.history.specs.Port.{sequence, steps, sift, older, young, remaining, l
 use Rattle.history.specs.Sound.{holdable, follows}
 use Rattle.book.specs.Below.{tab, tab-ext, length-tab, map-tab, first, first-le}
 use Rattle.book.specs.Layout.{master_words, identity_of, slot_at, message_at, master_of, reads, age-word}
-use Rattle.book.specs.Rules.{rule_at, holdable-word, HeldMaster}
+use Rattle.book.specs.Rules.{rule_at, HeldMaster}
+use Rattle.book.proofs.Rules.{holdable-word}
 use Rattle.ageing.specs.Age.{older_at, older_to, stale, gone, without, aged_master}
 use Rattle.ageing.specs.AgeLaws.{length-older_to, older_at-word, older_to-word}
 

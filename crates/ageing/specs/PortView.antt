@@ -5,7 +5,7 @@ use Rattle.std.proofs.Math.Path.{refl, sym, ap, ap₂}
 use Rattle.std.proofs.Common.{◌∙◌, append-nil, arith, length-set, length-append, get_or-set_same}
 use Rattle.std.proofs.Math.Seq.{get_or-set_other}
 use Rattle.wire.specs.Be.{put}
-use Rattle.wire.specs.BeLaws.{length-put, get_d_put-before}
+use Rattle.wire.proofs.BeLaws.{length-put, get_or-put_before}
 use Rattle.slot.specs.Blocks.{block, length-block, grid-same, grid-other, block-set-before}
 use Rattle.slot.specs.declared.ForeignAnnounceMessage.{ForeignAnnounceMessage}
 use Rattle.choice.specs.Choice.{joined}
@@ -85,7 +85,7 @@ module _ (p : List ℕ) (n : ℕ) (s : Packing) (h : n < masters_max) (q : Squee
       record {
         below = omega (arith, q.below);
         size = length-put s.words (master_at s.next) b (omega (arith, z)) ∙ q.size;
-        word = λ j l. get_d_put-before s.words (master_at s.next) b j (omega arith) (omega arith) ∙ q.word j l;
+        word = λ j l. get_or-put_before s.words (master_at s.next) b j (omega arith) (omega arith) ∙ q.word j l;
         later = λ i l u. grid-other s.words b 4 master_words s.next z fits i (λ e. omega (arith, q.below)) ∙ q.later i (omega arith) u;
         list =
             tab-push s.next (s.next + 1) (masters (put s.words (master_at s.next) b)) (masters s.words) (masters p n) refl

@@ -11,7 +11,8 @@ use Rattle.history.specs.Book.{age, total, turns_from, turns, after}
 use Rattle.book.specs.Below.{tab, tab_snoc, tab-ext, map-tab}
 use Rattle.book.specs.Each.{Treated, treated}
 use Rattle.book.specs.Layout.{port_words, head_words, store_words, port_at, port_of, site_of, book_of, reads, site-same}
-use Rattle.book.specs.Rules.{sound_words, held, port-held, master-held}
+use Rattle.book.specs.Rules.{sound_words}
+use Rattle.book.proofs.Rules.{held, port-held, master-held}
 use Rattle.ageing.specs.Age.{RingsFit, aged_port, gone_port, aged_ports_to, gone_ports_to, aged_store, aged_out}
 use Rattle.ageing.specs.PortView.{length-aged_port, port-aged, port-gone}
 

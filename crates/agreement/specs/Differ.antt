@@ -7,8 +7,10 @@ use Rattle.verdict.specs.declared.DatasetOrdering.{DatasetOrdering}
 use Rattle.verdict.specs.declared.DatasetOrdering.TheVariants.{Better}
 use Rattle.order.specs.Order.{cmp, then_by, is_greater}
 use Rattle.compare.specs.Dataset.{as_ordering, compare_of}
-use Rattle.compare_laws.specs.Mirror.{mirror, mirror_law}
-use Rattle.compare_laws.specs.Lines.{Circular, circle}
+use Rattle.compare_laws.specs.Mirror.{mirror}
+use Rattle.compare_laws.proofs.Mirror.{mirror_law}
+use Rattle.compare_laws.specs.Lines.{Circular}
+use Rattle.compare_laws.proofs.Lines.{circle}
 use Rattle.choice.specs.declared.Candidate.{Candidate}
 use Rattle.choice.specs.Choice.{from, choose}
 use Rattle.choice.specs.Candidate.{dataset_of, ranking, stays, itself, winner, erbests, ebest, single}

@@ -1,5 +1,3 @@
 -- Demand 3 of the choice.
 pub mod Agreement
-pub mod Ranking
-pub mod Winner
 pub mod Differ

@@ -11,10 +11,10 @@ use mir.ValLaws.{of_z_fits}
 use Rattle.wire.specs.Flags.{pack, pack-bound}
 use Rattle.header.specs.declared.Header.{Header}
 use Rattle.header.specs.Wire.{bits6, bits7}
-use Rattle.header.specs.RoundTrip as header
+use Rattle.header.proofs.RoundTrip as header
 use Rattle.announce.specs.declared.AnnounceMessage.{AnnounceMessage}
 use Rattle.announce.specs.Wire.{announce_of}
-use Rattle.announce.specs.RoundTrip as announce
+use Rattle.announce.proofs.RoundTrip as announce
 use Rattle.slot.specs.Slot.{header-back, content-back}
 use Rattle.lent.specs.Words.{all_within}
 use Rattle.announce_words.specs.Words.{announce_words, fits_fields, announce_in}

@@ -3,4 +3,3 @@ pub use Rattle.store.specs.Below
 pub use Rattle.store.specs.Layout
 pub use Rattle.store.specs.Each
 pub mod Rules
-pub mod View

@@ -1,3 +1,2 @@
 -- The lines that are marked (P).
 pub mod TlvLines
-pub mod Lines

@@ -1,3 +1,2 @@
 -- The words of a candidate and of a list of them.
 pub mod Words
-pub mod Laws

@@ -1,5 +1,3 @@
 -- The definitions of the choice, and its laws over any test.
 pub mod Choice
 pub mod Candidate
-pub mod Steps
-pub mod Chosen

@@ -1,3 +1,2 @@
 -- The definitions of the comparison, and its cases.
 pub mod Dataset
-pub mod Laws

@@ -1,4 +1,2 @@
 -- The definitions and laws of consumption.
 pub mod Consume
-pub mod Words
-pub mod View

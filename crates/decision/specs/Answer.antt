@@ -1,7 +1,6 @@
 -- The answers in the paper's numbers and values: each determines the answer.
 -- Assumes nothing.
-use Rattle.std.specs.Prelude.{◌≡◌, refl, cond, ℕ, eqb}
-use Rattle.std.proofs.Common.{sym, ap, ◌∙◌}
+use Rattle.std.specs.Prelude.{cond, ℕ, eqb}
 use Rattle.std.proofs.Math.Option.{Option, none, some}
 use Rattle.announce.specs.declared.AnnounceMessage.{AnnounceMessage}
 use Rattle.compare.specs.declared.InternalDefaultDS.{InternalDefaultDS}
@@ -10,7 +9,6 @@ use Rattle.decision.specs.declared.BestMessage.{BestMessage}
 use Rattle.decision.specs.declared.BestMessage.TheVariants.{Nothing, Found}
 use Rattle.decision.specs.declared.RecommendedState.{RecommendedState}
 use Rattle.decision.specs.declared.RecommendedState.TheVariants.{Stay, M1, M2, M3, P1, P2, S1}
-use Rattle.decision.specs.State.{option_of}
 
 -- the number of a state: 00 stay, 01 M1, 02 M2, 03 M3, 04 P1, 05 P2, 06 S1
 abbrev pub number_of : RecommendedState → ℕ
@@ -41,32 +39,12 @@ abbrev pub answer_of : RecommendedState → ℕ × Carried
 answer_of s = (number_of s, carried s)
 
 -- the state of an answer
-abbrev state_for : ℕ × Carried → RecommendedState
+abbrev pub state_for : ℕ × Carried → RecommendedState
 state_for (n, nothing) = Stay
 state_for (n, own_data own) = cond (eqb n 1) (M1 own) (M2 own)
 state_for (n, message m) = cond (eqb n 3) (M3 m) (cond (eqb n 4) (P1 m) (cond (eqb n 5) (P2 m) (S1 m)))
 
-state-back : (s : RecommendedState) → state_for (answer_of s) ≡ s
-state-back Stay = refl
-state-back (M1 own) = refl
-state-back (M2 own) = refl
-state-back (M3 m) = refl
-state-back (P1 m) = refl
-state-back (P2 m) = refl
-state-back (S1 m) = refl
-
--- Two states with the same number and values are the same.
-pub answer_determines : (s t : RecommendedState) → answer_of s ≡ answer_of t → s ≡ t
-answer_determines s t e = sym (state-back s) ∙ ap state_for e ∙ state-back t
-
 -- So are two best messages.
-abbrev found : Option BestAnnounceMessage → BestMessage
+abbrev pub found : Option BestAnnounceMessage → BestMessage
 found none = Nothing
 found (some b) = Found b
-
-found_back : (b : BestMessage) → found (option_of b) ≡ b
-found_back Nothing = refl
-found_back (Found b) = refl
-
-pub option_determines : (a b : BestMessage) → option_of a ≡ option_of b → a ≡ b
-option_determines a b e = sym (found_back a) ∙ ap found e ∙ found_back b

@@ -1,3 +1,2 @@
 -- The definitions and laws of the choice of a port's Erbest.
 pub mod Place
-pub mod Chosen

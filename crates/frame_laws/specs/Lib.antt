@@ -1,4 +1,3 @@
 -- Laws of frames that are read and written.
 pub mod Accepted
-pub mod RoundTrip
 pub mod Example

@@ -6,7 +6,7 @@ use Rattle.wire.specs.Write.{write_number, write_buffer}
 use Rattle.header.specs.Wire as header
 use Rattle.announce.specs.declared.AnnounceMessage.{AnnounceMessage}
 use Rattle.announce.specs.Wire as announce
-use Rattle.announce.specs.Message.{with_message}
+use Rattle.announce.proofs.Message.{with_message}
 use Rattle.tlv.specs.Tlv.{whole_entries}
 
 -- what the wire can hold: header and content fit, the whole is at most 65,535 bytes, the TLVs are whole even entries

@@ -5,7 +5,7 @@ use Rattle.std.proofs.Math.Path.{◌≡◌, refl}
 use Rattle.std.proofs.Math.Bool.{true, false, cond}
 use Rattle.std.proofs.Common.{arith}
 use Rattle.header.specs.Wire as header
-use Rattle.header.specs.Laws.{fitting}
+use Rattle.header.proofs.Laws.{fitting}
 use Rattle.announce.specs.declared.AnnounceMessage.{AnnounceMessage}
 use Rattle.announce.specs.Wire as announce
 use Rattle.tlv.specs.Tlv.{whole_entries}

@@ -11,17 +11,17 @@ use borrow.Author.Tests.{leb-true, lt-ltb, le-ltb, ne_eqb}
 use Rattle.std.proofs.Math.Arith.{digits_div, digits_mod}
 use Rattle.std.proofs.Math.Dec.{eqb}
 use Rattle.std.proofs.Math.ListN.{get_or}
-use Rattle.slot.specs.Blocks.{block, get_d_block}
+use Rattle.slot.specs.Blocks.{block, get_or-block}
 use Rattle.slot.specs.declared.ForeignAnnounceMessage.{ForeignAnnounceMessage}
 use Rattle.history.specs.Rules.{ports_max, listed_max, interval_right}
 use Rattle.history.specs.Port.{Site, Port}
 use Rattle.history.specs.Book.{fresh_port, fresh_book}
 use Rattle.history.specs.Sound.{every, sound_book, startable}
-use Rattle.history.specs.Kept.{fresh-sound}
+use Rattle.history.proofs.Kept.{fresh-sound}
 use Rattle.book.specs.Below.{and₄, tab, tab-ext, map-tab}
 use Rattle.book.specs.Layout.{master_words, port_words, head_words, store_words, master_at, port_at, master_of, port_of, site_of, book_of, reads}
 use Rattle.book.specs.Rules.{sound_words}
-use Rattle.book.specs.View.{sound_view}
+use Rattle.book.proofs.View.{sound_view}
 use Rattle.fresh.specs.Fresh.{site_with, rule_word, head_word, fresh_word, begun}
 use Rattle.fresh.specs.Words.{tab-words, length-put-tab, put-tab_in, put-tab-past}
 
@@ -79,7 +79,7 @@ module _ (S : Site) (ns s : List ℕ) (room : store_words ≤ length s) where
   -- word j of port q
   begun-port : (q j : ℕ) → q < ports_max → j < port_words → get_or (block (begun S ns s) (port_at q) port_words) j 0 ≡ cond (eqb j 0) (get_or ns q 0) 0
   begun-port q j hq hj =
-      get_d_block (begun S ns s) (port_at q) port_words j hj ∙ begun-word (port_at q + j) (omega arith) ∙ port-fresh S ns q j hj
+      get_or-block (begun S ns s) (port_at q) port_words j hj ∙ begun-word (port_at q + j) (omega arith) ∙ port-fresh S ns q j hj
 
   -- port q is a fresh one
   port_view : (q : ℕ) → q < ports_max → port_of (block (begun S ns s) (port_at q) port_words) ≡ fresh_port (get_or ns q 0)

@@ -7,7 +7,7 @@ use mathlib.Core.List.{List, [], ◌∷◌, ◌++◌, append_assoc}
 use Rattle.std.proofs.Math.ListN.{length, set, drop, get_or-append}
 use Rattle.std.proofs.Math.Seq.{set_at}
 use Rattle.wire.specs.Be.{put}
-use Rattle.wire.specs.BeLaws.{length-put, get_d_put-after}
+use Rattle.wire.proofs.BeLaws.{length-put, get_or-put_after}
 use Rattle.history.specs.Sound.{every}
 use Rattle.book.specs.Below.{all, all-shift, tab, tab_snoc, length-tab}
 
@@ -22,10 +22,10 @@ tab-words [] = refl
 tab-words (x ∷ xs) = ap (λ (l : List ℕ). x ∷ l) (tab-words xs)
 
 -- word i of a function's values
-get_d_tab : (n : ℕ) (f : ℕ → ℕ) (i : ℕ) → i < n → get_or (tab n f) i 0 ≡ f i
-get_d_tab zero f i h = absurd (not-suc-le-zero h)
-get_d_tab (suc n) f zero h = refl
-get_d_tab (suc n) f (suc i) h = get_d_tab n (λ k. f (suc k)) i (omega arith)
+get_or-tab : (n : ℕ) (f : ℕ → ℕ) (i : ℕ) → i < n → get_or (tab n f) i 0 ≡ f i
+get_or-tab zero f i h = absurd (not-suc-le-zero h)
+get_or-tab (suc n) f zero h = refl
+get_or-tab (suc n) f (suc i) h = get_or-tab n (λ k. f (suc k)) i (omega arith)
 
 -- a list of words with the first n values of a function put at its start
 module _ (s : List ℕ) (f : ℕ → ℕ) (n : ℕ) where
@@ -49,8 +49,8 @@ module _ (s : List ℕ) (f : ℕ → ℕ) (n : ℕ) where
   -- a word before n is the function's value
   pub put-tab_in : n ≤ length s → (i : ℕ) → i < n → get_or (put s 0 (tab n f)) i 0 ≡ f i
   unfolding put
-  put-tab_in h i l = get_or-append (tab n f) (drop (0 + length (tab n f)) s) 0 i (rw (length-tab n f) l) ∙ get_d_tab n f i l
+  put-tab_in h i l = get_or-append (tab n f) (drop (0 + length (tab n f)) s) 0 i (rw (length-tab n f) l) ∙ get_or-tab n f i l
 
   -- a word from n on is as it was
   pub put-tab-past : n ≤ length s → (i : ℕ) → n ≤ i → get_or (put s 0 (tab n f)) i 0 ≡ get_or s i 0
-  put-tab-past h i l = get_d_put-after s 0 (tab n f) i (omega (arith, length-tab n f)) (omega (arith, length-tab n f))
+  put-tab-past h i l = get_or-put_after s 0 (tab n f) i (omega (arith, length-tab n f)) (omega (arith, length-tab n f))

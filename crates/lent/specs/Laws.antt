@@ -5,7 +5,7 @@ use Rattle.std.proofs.Common.{sym, ap, ◌∙◌, add-zero, arith, lt-ltb, le-lt
 use Rattle.std.proofs.lemmas.Bool.{lt-leb}
 use Rattle.std.proofs.Math.Seq.{drop-cons}
 use Rattle.wire.specs.Be.{put}
-use Rattle.wire.specs.BeLaws.{length-put, put-nil, put_last, put-put}
+use Rattle.wire.proofs.BeLaws.{length-put, put-nil, put_last, put-put}
 use Rattle.lent.specs.Words.{all_within, lent}
 
 -- a word set is a run of one word

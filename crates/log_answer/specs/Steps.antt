@@ -11,7 +11,7 @@ use Rattle.wire.specs.Refusal.{on_zero}
 use Rattle.states.specs.declared.PortAnswer.{PortAnswer}
 use Rattle.stored.specs.Calls.{StoreCall, exit_of, number_of, answers_to}
 use Rattle.hex_line.specs.Hex.{hex_of, hex_all}
-use Rattle.hex_line.specs.HexLaws.{length-hex}
+use Rattle.hex_line.proofs.HexLaws.{length-hex}
 use Rattle.log_answer.specs.declared.Setup.{Setup}
 use Rattle.log_answer.specs.declared.Answered.{Answered}
 use Rattle.log_answer.specs.Answer.{Asked, state_byte, told_of, text_of, states_text, setup_of, store_of, out_of, answered_of, Answers}

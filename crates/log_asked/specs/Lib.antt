@@ -1,4 +1,2 @@
 -- The definitions of the log program's lines, and the laws for its code.
 pub mod Line
-pub mod Steps
-pub mod Kinds

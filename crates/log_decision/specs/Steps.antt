@@ -11,10 +11,11 @@ use Rattle.std.proofs.lemmas.List.Edits.{sets}
 use Rattle.wire.specs.Refusal.{on_zero, on-done}
 use Rattle.announce.specs.declared.ClockQuality.{ClockQuality}
 use Rattle.book.specs.Layout.{book_of}
-use Rattle.book.specs.Rules.{store_refusal, checked, held}
+use Rattle.book.specs.Rules.{store_refusal}
+use Rattle.book.proofs.Rules.{checked, held}
 use Rattle.bmca.specs.declared.Decision.{Decision}
 use Rattle.bmca.specs.Decide.{refused_with, decide_of, decide_answer, decide_exit}
-use Rattle.bmca.specs.Laws as decided
+use Rattle.bmca.proofs.Laws as decided
 use Rattle.log_answer.specs.declared.Setup.{Setup}
 use Rattle.log_answer.specs.declared.Answered.{Answered}
 use Rattle.log_answer.specs.Answer.{Asked, state_byte, told_of, text_of, Answers}

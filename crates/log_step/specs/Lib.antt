@@ -1,3 +1,2 @@
 -- The definitions of the log program's input in pieces, and the laws for its code.
 pub mod Piece
-pub mod Steps

@@ -18,7 +18,7 @@ use Rattle.choice.specs.Candidate.{ranking, stays, winner}
 use Rattle.choice.specs.Choice.{from, choose}
 use Rattle.decision.specs.declared.RecommendedState.TheVariants.{M3, S1}
 use Rattle.decision.specs.Answer.{number_of}
-use Rattle.decision.specs.Reasons.{same-best-refl}
+use Rattle.decision.proofs.Reasons.{same-best-refl}
 use Rattle.decision.specs.State.{global_and_port, low, state_of}
 use Rattle.states.specs.Ports.{ebest_of, answers_from}
 use Rattle.history.specs.Book.{number, turns, after}

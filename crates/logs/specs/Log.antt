@@ -11,7 +11,7 @@ use Rattle.fresh.specs.Fresh.{site_with}
 use Rattle.foreign_master.specs.Calls.{register_call}
 use Rattle.bmca.specs.Decide.{decide_call}
 use Rattle.stored.specs.Calls.{StoreCall, fresh_start, register_frame, step_age, decide}
-use Rattle.stored.specs.Views.{number_at, states_at}
+use Rattle.stored.proofs.Views.{number_at, states_at}
 use Rattle.lines.specs.Lines.{lines_of}
 use Rattle.log_answer.specs.declared.Setup.{Setup}
 use Rattle.log_answer.specs.Answer.{Asked, no_setup, state_byte, text_of}

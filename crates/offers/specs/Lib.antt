@@ -1,3 +1,2 @@
 -- The definitions and laws of what the masters of a port offer.
 pub mod Offers
-pub mod View

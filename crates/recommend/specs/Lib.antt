@@ -1,3 +1,2 @@
 -- The definitions and laws of a state by its number.
 pub mod Number
-pub mod Laws

@@ -8,7 +8,7 @@ use Rattle.std.proofs.lemmas.List.Edits.{sets, sets-eq}
 use Rattle.std.proofs.Math.Seq.{drop-append-add, take-set-lt}
 use Rattle.std.proofs.lemmas.List.{drop-set-add, take-set-le}
 use Rattle.wire.specs.Be.{put}
-use Rattle.wire.specs.BeLaws.{part-put, part-put-before}
+use Rattle.wire.proofs.BeLaws.{part-put, part-put-before}
 
 -- the `n` words from `b` on
 abbrev pub block : List ℕ → ℕ → ℕ → List ℕ
@@ -21,8 +21,8 @@ pub length-block : (s : List ℕ) (b n : ℕ) → b + n ≤ length s → length 
 length-block s b n h = simp (length-take, length-drop) (omega arith)
 
 -- a word of a block
-pub get_d_block : (s : List ℕ) (b n i : ℕ) → i < n → get_or (block s b n) i 0 ≡ get_or s (b + i) 0
-get_d_block s b n i h = get_or-take n (drop b s) i 0 h ∙ get_or-drop b s i 0
+pub get_or-block : (s : List ℕ) (b n i : ℕ) → i < n → get_or (block s b n) i 0 ≡ get_or s (b + i) 0
+get_or-block s b n i h = get_or-take n (drop b s) i 0 h ∙ get_or-drop b s i 0
 
 -- a block put where it stands
 pub put-block : (s : List ℕ) (b n : ℕ) → b + n ≤ length s → put s b (block s b n) ≡ s

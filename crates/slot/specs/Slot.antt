@@ -9,10 +9,10 @@ use Rattle.wire.specs.Flags.{pack, pack-bound}
 use Rattle.header.specs.declared.PortIdentity.{PortIdentity}
 use Rattle.header.specs.declared.Header.{Header}
 use Rattle.header.specs.Wire.{header_with, header_of, header_values, bits6, bits7}
-use Rattle.header.specs.RoundTrip as header
+use Rattle.header.proofs.RoundTrip as header
 use Rattle.announce.specs.declared.AnnounceMessage.{AnnounceMessage}
 use Rattle.announce.specs.Wire.{announce_with, announce_of, content_values}
-use Rattle.announce.specs.RoundTrip as announce
+use Rattle.announce.proofs.RoundTrip as announce
 use Rattle.slot.specs.declared.ForeignAnnounceMessage.{ForeignAnnounceMessage}
 
 -- ---- what a slot can hold

@@ -1,4 +1,3 @@
 -- The definitions and laws of the decision for all ports.
 pub mod Ports
-pub mod Steps
 pub mod Slave

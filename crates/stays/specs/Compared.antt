@@ -12,11 +12,11 @@ use Rattle.order.specs.declared.Ordering.TheVariants.{Less, Equal, Greater}
 use Rattle.order.specs.Order.{cmp, then_by, lex, flip, is_less, is_greater}
 use Rattle.order.specs.Rows.{Two, lt, eq, gt, two, cmp_less, cmp_greater, cmp_equal, lex-flip, stand, stand_equal, then_by_assoc}
 use Rattle.compare.specs.Dataset.{by_quality, quality_row, figure34, as_ordering}
-use Rattle.compare.specs.Laws.{other-grandmaster}
+use Rattle.compare.proofs.Laws.{other-grandmaster}
 use Rattle.choice.specs.declared.Candidate.{Candidate}
 use Rattle.choice.specs.Candidate.{dataset_of, ranking, stays, whole}
 use Rattle.agreement.specs.Agreement.{Foreign}
-use Rattle.agreement.specs.Ranking.{tie_row, ranking_35}
+use Rattle.agreement.proofs.Ranking.{tie_row, ranking_35}
 use Rattle.slot.specs.Blocks.{block}
 use Rattle.slot.specs.Slot.{decode, decode-source}
 use Rattle.history.specs.Port.{sender, best_of}

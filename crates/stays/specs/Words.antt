@@ -6,7 +6,7 @@ use Rattle.announce.specs.declared.AnnounceMessage.{AnnounceMessage}
 use Rattle.announce.specs.Wire.{announce_of, announce_with}
 use Rattle.order.specs.Order.{lex, is_less}
 use Rattle.order.specs.Rows.{cmp_equal}
-use Rattle.slot.specs.Blocks.{get_d_block}
+use Rattle.slot.specs.Blocks.{get_or-block}
 use Rattle.slot.specs.Slot.{decode}
 use Rattle.history.specs.Port.{steps}
 use Rattle.book.specs.Layout.{slot_at, message_at, reads}
@@ -40,7 +40,7 @@ stays_at m n = cond (eqb (grandmaster_of m) (grandmaster_of n)) (is_less (lex (n
 -- the grandmaster is word 0 of a slot
 pub grandmaster-word : (m : List ℕ) (k : ℕ) → (message_at m k).message.grandmaster_identity ≡ get_or m (slot_at (get_or m 2 0) k) 0
 unfolding message_at decode announce_of announce_with
-grandmaster-word m k = get_d_block m (slot_at (get_or m 2 0) k) 8 0 (omega arith) ∙ ap (λ (i : ℕ). get_or m i 0) (add-zero (slot_at (get_or m 2 0) k))
+grandmaster-word m k = get_or-block m (slot_at (get_or m 2 0) k) 8 0 (omega arith) ∙ ap (λ (i : ℕ). get_or m i 0) (add-zero (slot_at (get_or m 2 0) k))
 
 -- the high 48 bits of a word are its five numbers
 high-digits : (w : ℕ) → w < 2 ^ 64
@@ -54,7 +54,7 @@ high-digits w h =
 pub high_word : (m : List ℕ) (k : ℕ) → get_or m (slot_at (get_or m 2 0) k + 5) 0 < 2 ^ 64
     → high_of (message_at m k).message ≡ get_or m (slot_at (get_or m 2 0) k + 5) 0 / 256 / 256
 unfolding message_at decode announce_of announce_with
-high_word m k h = rw (get_d_block m (slot_at (get_or m 2 0) k) 8 5 (omega arith)) (high-digits (get_or m (slot_at (get_or m 2 0) k + 5) 0) h)
+high_word m k h = rw (get_or-block m (slot_at (get_or m 2 0) k) 8 5 (omega arith)) (high-digits (get_or m (slot_at (get_or m 2 0) k + 5) 0) h)
 
 -- ---- the choice by its cases
 

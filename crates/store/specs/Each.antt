@@ -3,7 +3,7 @@
 use Rattle.std.specs.Prelude.{◌≡◌, refl, List, ℕ, zero, suc, ◌+◌, ◌*◌, ◌≤◌, ◌<◌, length, get_or}
 use Rattle.std.proofs.Common.{sym, ap, ◌∙◌, ⊎_elim, arith, mul-le-mul_right, suc-mul, eq-or-lt_of_le, le_of_suc-le-suc, not-suc-le-zero}
 use Rattle.wire.specs.Be.{put}
-use Rattle.wire.specs.BeLaws.{length-put, get_d_put-before}
+use Rattle.wire.proofs.BeLaws.{length-put, get_or-put_before}
 use Rattle.slot.specs.Blocks.{block, grid-same, grid-other}
 
 -- the first m blocks of n words, the first at `base`: each becomes f of it
@@ -30,7 +30,7 @@ module _
         let fits : base + m * n + n ≤ length t = omega (arith, a.size, mul-le-mul_right n h, suc-mul m n) in
         record {
           size = length-put t (base + m * n) w (omega (arith, z)) ∙ a.size;
-          word = λ j l. get_d_put-before t (base + m * n) w j (omega arith) (omega arith) ∙ a.word j l;
+          word = λ j l. get_or-put_before t (base + m * n) w j (omega arith) (omega arith) ∙ a.word j l;
           later = λ i l u. grid-other t w base n m z fits i (λ e. omega arith) ∙ a.later i (omega arith) u;
           done =
               λ i l.

@@ -3,7 +3,7 @@
 use Rattle.std.specs.Prelude.{ℕ, ◌+◌, ◌*◌, ◌/◌, ◌%◌, ◌≤◌, ◌<◌, ◌≡◌, refl, List, eqb, get_or}
 use Rattle.std.proofs.Common.{arith, ap, ◌∙◌}
 use Rattle.header.specs.declared.PortIdentity.{PortIdentity}
-use Rattle.slot.specs.Blocks.{block, get_d_block}
+use Rattle.slot.specs.Blocks.{block, get_or-block}
 use Rattle.slot.specs.Slot.{decode, aged}
 use Rattle.slot.specs.Slot as slot
 use Rattle.slot.specs.declared.ForeignAnnounceMessage.{ForeignAnnounceMessage}
@@ -82,10 +82,10 @@ site-same s t few word =
 
 pub age-word : (m : List ℕ) (k : ℕ) → (message_at m k).age ≡ get_or m (slot_at (get_or m 2 0) k + 2) 0
 unfolding message_at
-age-word m k = slot.decode-age (identity_of m) (block m (slot_at (get_or m 2 0) k) 8) ∙ get_d_block m (slot_at (get_or m 2 0) k) 8 2 (omega arith)
+age-word m k = slot.decode-age (identity_of m) (block m (slot_at (get_or m 2 0) k) 8) ∙ get_or-block m (slot_at (get_or m 2 0) k) 8 2 (omega arith)
 
 counts-word : (m : List ℕ) (k : ℕ) → get_or (block m (slot_at (get_or m 2 0) k) 8) 4 0 ≡ get_or m (slot_at (get_or m 2 0) k + 4) 0
-counts-word m k = get_d_block m (slot_at (get_or m 2 0) k) 8 4 (omega arith)
+counts-word m k = get_or-block m (slot_at (get_or m 2 0) k) 8 4 (omega arith)
 
 pub steps-word : (m : List ℕ) (k : ℕ) → steps reads (message_at m k) ≡ get_or m (slot_at (get_or m 2 0) k + 4) 0 / 65536 % 65536
 unfolding message_at

@@ -1,3 +1,2 @@
 -- The definitions and laws of reading TLVs.
 pub mod Tlv
-pub mod Laws

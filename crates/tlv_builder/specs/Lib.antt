@@ -1,3 +1,2 @@
 -- The definitions and laws of writing TLVs.
 pub mod Builder
-pub mod BuilderLaws

@@ -1,7 +1,6 @@
 -- The kinds of TLVs, IEEE 1588-2019, table 52, as far as the crate names them, and which of them are passed on downstream.
 -- Assumes nothing.
-use Rattle.std.specs.Prelude.{ℕ, List, [], ◌∷◌, ◌≡◌, refl, Bool, true, false, cond, ◌||◌, ◌&&◌, eqb, leb}
-use Rattle.std.proofs.Common.{sym, ap, eqb-true}
+use Rattle.std.specs.Prelude.{ℕ, List, [], ◌∷◌, Bool, cond, ◌||◌, ◌&&◌, eqb, leb}
 use Rattle.tlv_type.specs.declared.TlvType.{TlvType}
 use Rattle.tlv_type.specs.declared.TlvType.TheVariants.{Management, ManagementErrorStatus, OrganizationExtension, RequestUnicastTransmission, GrantUnicastTransmission, CancelUnicastTransmission, AcknowledgeCancelUnicastTransmission, PathTrace, AlternateTimeOffsetIndicator, OrganizationExtensionPropagate, EnhancedAccuracyMetrics, OrganizationExtensionDoNotPropagate, L1Sync, PortCommunicationAvailability, ProtocolAddress, SlaveRxSyncTimingData, SlaveRxSyncComputedData, SlaveTxEventTimestamps, CumulativeRateRatio, Pad, Authentication, Other}
 
@@ -50,22 +49,3 @@ kind_of n = one_in named n
 -- 8, 9 and 0x4000 to 0x7FFF are passed on downstream
 abbrev pub passed_on : ℕ → Bool
 passed_on n = (leb 8 n && leb n 9) || (leb 0x4000 n && leb n 0x7fff)
-
--- ---- laws
-
--- a number's kind has that number
-number_in : (ks : List TlvType) (n : ℕ) → number_of (one_in ks n) ≡ n
-number_in [] n = refl
-number_in (k ∷ ks) n = by (eqb n (number_of k)) refl (number_in ks n)
-  where
-    by : (b : Bool) → eqb n (number_of k) ≡ b → number_of (one_in ks n) ≡ n → number_of (cond b k (one_in ks n)) ≡ n
-    by true e rest = sym (eqb-true n (number_of k) e)
-    by false e rest = rest
-
-pub number_kind : (n : ℕ) → number_of (kind_of n) ≡ n
-unfolding kind_of
-number_kind n = number_in named n
-
--- so an entry is passed on by its number
-pub passed-by-number : (n : ℕ) → passed_on (number_of (kind_of n)) ≡ passed_on n
-passed-by-number n = ap passed_on (number_kind n)

@@ -5,7 +5,7 @@ use mathlib.Core.List.{List}
 use mathlib.Core.Path.{ap, ◌∙◌}
 use Rattle.slot.specs.Blocks.{block, length-block, part-block, lent-block}
 use Rattle.book.specs.Layout.{head_words, port_words, port_at}
-use Rattle.book.specs.Rules.{held, held-port}
+use Rattle.book.proofs.Rules.{held, held-port}
 use Rattle.admission.specs.Admit.{evicted_at, registered, evicted_in, registered_in}
 use Rattle.admission.proofs.register_in.Goals as goal
 

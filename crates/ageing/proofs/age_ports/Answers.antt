@@ -4,7 +4,7 @@ use borrow.Rule.Slice.PartMut.{same_len_mid}
 use Rattle.wire.specs.Be.{put}
 use Rattle.slot.specs.Blocks.{block, length-block, part-block, lent-block}
 use Rattle.book.specs.Layout.{port_words, port_at}
-use Rattle.book.specs.Rules.{held, port-held}
+use Rattle.book.proofs.Rules.{held, port-held}
 use Rattle.ageing.specs.Age.{aged_port, gone_port, aged_ports_to, gone_ports_to, aged_store, aged_out}
 use Rattle.ageing.specs.StoreView.{aged-ports, rings_fit}
 use Rattle.ageing.proofs.age_ports.Goals as goal

@@ -1,6 +1,6 @@
 -- `announce::deserialize_content` meets its contract, by the law of each of its two ways.
 -- Assumes nothing.
-use Rattle.announce.specs.Laws.{read_1, read_0}
+use Rattle.announce.proofs.Laws.{read_1, read_0}
 use Rattle.announce.proofs.deserialize_content.Goals as goal
 
 pub returns-then-buffer-lt-CONTENT_SIZE : goal.returns-then-buffer-lt-CONTENT_SIZE

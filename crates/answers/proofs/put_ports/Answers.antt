@@ -9,10 +9,10 @@ use borrow.Author.Rules.{rules}
 use lib.ListN.{length, take, get_or}
 use lib.Seq.{take-length}
 use Rattle.wire.specs.Be.{put}
-use Rattle.wire.specs.BeLaws.{put-nil}
+use Rattle.wire.proofs.BeLaws.{put-nil}
 use Rattle.answers.specs.Answers.{state_words, ports_words}
 use Rattle.states.specs.declared.PortAnswer.{PortAnswer}
-use Rattle.answers.specs.Laws.{length-next, put-next-state}
+use Rattle.answers.proofs.Laws.{length-next, put-next-state}
 use Rattle.answers.proofs.put_ports.Goals as goal
 
 pub loop-i-init : goal.loop-i-init

@@ -7,7 +7,7 @@ use native.Mathlib.Omega.{arith}
 use lib.ListN.{length, set}
 use Rattle.wire.specs.Be.{put}
 use Rattle.answers.specs.Answers.{ports_words}
-use Rattle.answers.specs.Laws.{length-head, length-decision, decision-put, decision-refused}
+use Rattle.answers.proofs.Laws.{length-head, length-decision, decision-put, decision-refused}
 use Rattle.answers.proofs.tell_decision.Goals as goal
 
 pub returns-then-told-ne0 : goal.returns-then-told-ne0

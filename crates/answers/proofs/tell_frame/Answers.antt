@@ -2,7 +2,7 @@
 -- Assumes nothing.
 use mathlib.Core.Path.{sym, ap, ◌∙◌}
 use Rattle.wire.specs.Be.{put}
-use Rattle.wire.specs.BeLaws.{put-nil}
+use Rattle.wire.proofs.BeLaws.{put-nil}
 use Rattle.answers.specs.Answers.{frame_number, frame_words}
 use Rattle.answers.proofs.tell_frame.Goals as goal
 

@@ -2,7 +2,7 @@
 -- Assumes nothing.
 use mathlib.Core.Path.{sym, ap, ◌∙◌}
 use Rattle.wire.specs.Be.{put}
-use Rattle.wire.specs.BeLaws.{put-nil}
+use Rattle.wire.proofs.BeLaws.{put-nil}
 use Rattle.answers.specs.Answers.{tlv_number, tlv_words}
 use Rattle.answers.proofs.tell_tlv.Goals as goal
 

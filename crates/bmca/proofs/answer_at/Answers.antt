@@ -1,7 +1,7 @@
 -- `bmca::answer_at` meets its contract. Assumes nothing.
 use native.Mathlib.Omega.{arith}
 use native.Mathlib.Numerals.{add-one}
-use Rattle.book.specs.Rules.{held}
+use Rattle.book.proofs.Rules.{held}
 use Rattle.bmca.proofs.answer_at.Goals as goal
 
 pub returns : goal.returns

@@ -6,9 +6,9 @@ use mathlib.Core.List.{◌++◌}
 use mathlib.Core.Path.{◌≡◌, ap, ◌∙◌}
 use lib.ListN.{length, drop, get_or, length-set}
 use Rattle.book.specs.Below.{tab}
-use Rattle.book.specs.Rules.{held}
+use Rattle.book.proofs.Rules.{held}
 use Rattle.bmca.specs.Decide.{blanks}
-use Rattle.bmca.specs.Over.{over-tab}
+use Rattle.bmca.proofs.Over.{over-tab}
 use Rattle.bmca.specs.Plan.{answer_in, answers_in}
 use Rattle.bmca.proofs.answers_of.Goals as goal
 

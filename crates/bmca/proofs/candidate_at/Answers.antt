@@ -6,12 +6,12 @@ use borrow.Author.Tests.{le-ltb, lt-ltb}
 use lib.ListN.{get_or}
 use Rattle.choice.specs.declared.Best.TheVariants.{Found}
 use Rattle.choice.specs.Candidate.{whole}
-use Rattle.slot.specs.Blocks.{block, length-block, get_d_block, part-block}
+use Rattle.slot.specs.Blocks.{block, length-block, get_or-block, part-block}
 use Rattle.book.specs.Layout.{port_words, port_at}
-use Rattle.book.specs.Rules.{held, port-held}
+use Rattle.book.proofs.Rules.{held, port-held}
 use Rattle.offers.specs.Offers.{best_at}
 use Rattle.bmca.specs.Plan.{winner_at}
-use Rattle.bmca.specs.Words.{some-held}
+use Rattle.bmca.proofs.Words.{some-held}
 use Rattle.bmca.proofs.candidate_at.Goals as goal
 
 pub returns-then-count-winner : goal.returns-then-count-winner
@@ -20,7 +20,7 @@ returns-then-count-winner c =
     let s = a.store.now in
     let at = port_at a.q in
     let l : get_or (block s at port_words) 1 0 ≤ winner_at s a.q =
-    omega (arith, get_d_block s at port_words 1 (omega arith), c.if-count-winner.true, c.requires.winner_value) in
+    omega (arith, get_or-block s at port_words 1 (omega arith), c.if-count-winner.true, c.requires.winner_value) in
     rw (le-ltb _ _ l)
 
 pub best_at-best-requires : goal.best_at-best-requires
@@ -30,7 +30,7 @@ best_at-best-requires c =
     let pre = c.requires.store_words_in_bounds in
     let at = port_at a.q in
     let few = (port-held s pre.1 a.q pre.2).masters in
-    let l : a.winner < get_or (block s at port_words) 1 0 = omega (arith, get_d_block s at port_words 1 (omega arith), c.if-count-winner.false) in
+    let l : a.winner < get_or (block s at port_words) 1 0 = omega (arith, get_or-block s at port_words 1 (omega arith), c.if-count-winner.false) in
     rw (part-block s at port_words)
     (length-block s at port_words (omega (arith, (held s pre.1).ports)), omega (arith, few, l), some-held s pre.1 a.q pre.2 a.winner l)
 
@@ -43,7 +43,7 @@ returns c =
     let here = part-block s at port_words in
     let winner = c.requires.winner_value in
     let l : winner_at s a.q < get_or (block s at port_words) 1 0 =
-    omega (arith, get_d_block s at port_words 1 (omega arith), c.if-count-winner.false, winner) in
+    omega (arith, get_or-block s at port_words 1 (omega arith), c.if-count-winner.false, winner) in
     rw (lt-ltb _ _ l) (ap Found (c.candidate.ensures ∙ ap whole (c.best_at-best.ensures ∙ (λ i. best_at (receiver i) (here i) (winner i)))))
 
 pub overflow_mul-at : goal.overflow_mul-at

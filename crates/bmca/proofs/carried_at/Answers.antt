@@ -6,8 +6,8 @@ use mathlib.Core.Path.{sym, ap, ◌∙◌}
 use lib.ListN.{get_or}
 use Rattle.decision.specs.State.{option_of}
 use Rattle.recommend.specs.Number.{carrying_best}
-use Rattle.book.specs.Rules.{held}
-use Rattle.bmca.specs.Planned.{winner_in, from-port}
+use Rattle.book.proofs.Rules.{held}
+use Rattle.bmca.proofs.Planned.{winner_in, from-port}
 use Rattle.bmca.proofs.carried_at.Goals as goal
 
 pub erbest_at-requires : goal.erbest_at-requires

@@ -10,12 +10,12 @@ use lib.ListN.{take, drop, get_or}
 use Rattle.wire.specs.Be.{put}
 use Rattle.slot.specs.Blocks.{block, length-block, part-block, lent-block}
 use Rattle.book.specs.Layout.{port_words, port_at}
-use Rattle.book.specs.Rules.{held, port-held}
+use Rattle.book.proofs.Rules.{held, port-held}
 use Rattle.erbest.specs.Place.{winner_place}
 use Rattle.consumption.specs.Consume.{consumed_in, gone_in}
 use Rattle.bmca.specs.Decide.{decided_port, gone_port, decided_to, gone_to, decided_store, gone_store}
-use Rattle.bmca.specs.Words.{decided-ports}
-use Rattle.bmca.specs.Planned.{winner_in}
+use Rattle.bmca.proofs.Words.{decided-ports}
+use Rattle.bmca.proofs.Planned.{winner_in}
 use Rattle.bmca.proofs.consume.Goals as goal
 
 pub loop-q-init : goal.loop-q-init

@@ -4,11 +4,12 @@ use mathlib.Core.Path.{◌≡◌, sym, ap, ◌∙◌}
 use lib.ListN.{get_or}
 use Rattle.compare.specs.declared.InternalDefaultDS.{InternalDefaultDS}
 use Rattle.book.specs.Layout.{site_of, book_of}
-use Rattle.book.specs.Rules.{checked, store_refusal}
+use Rattle.book.specs.Rules.{store_refusal}
+use Rattle.book.proofs.Rules.{checked}
 use Rattle.bmca.specs.declared.Plan.{Plan}
 use Rattle.bmca.specs.Decide.{consuming_of}
 use Rattle.bmca.specs.Plan.{answers_in}
-use Rattle.bmca.specs.Laws.{refused, done}
+use Rattle.bmca.proofs.Laws.{refused, done}
 use Rattle.bmca.proofs.decide_checked.Goals as goal
 
 pub returns-then-checked-ne0 : goal.returns-then-checked-ne0

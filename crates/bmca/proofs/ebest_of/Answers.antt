@@ -10,12 +10,12 @@ use Rattle.choice.specs.Choice.{choose}
 use Rattle.choice.specs.Candidate.{winner}
 use Rattle.states.specs.Ports.{ebest_of}
 use Rattle.recommend.specs.Number.{shown, keep_next}
-use Rattle.recommend.specs.Laws.{keep-shown}
+use Rattle.recommend.proofs.Laws.{keep-shown}
 use Rattle.book.specs.Below.{tab}
-use Rattle.book.specs.Rules.{held}
+use Rattle.book.proofs.Rules.{held}
 use Rattle.bmca.specs.Decide.{erbest_at}
 use Rattle.bmca.specs.Plan.{ebest_in}
-use Rattle.bmca.specs.Planned.{winner_in, ebest-next}
+use Rattle.bmca.proofs.Planned.{winner_in, ebest-next}
 use Rattle.bmca.proofs.ebest_of.Goals as goal
 
 pub loop-q-init : goal.loop-q-init

@@ -6,7 +6,7 @@ use Rattle.history.specs.Rules.{ports_max}
 use Rattle.states.specs.Ports.{ebest_of}
 use Rattle.recommend.specs.Number.{shown}
 use Rattle.book.specs.Below.{tab}
-use Rattle.book.specs.Rules.{held}
+use Rattle.book.proofs.Rules.{held}
 use Rattle.bmca.specs.Decide.{erbest_at}
 use Rattle.bmca.proofs.ebest_of.Given as goal
 

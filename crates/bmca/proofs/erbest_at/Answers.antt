@@ -3,9 +3,9 @@ use native.Mathlib.Omega.{arith}
 use mathlib.Core.Path.{◌∙◌}
 use Rattle.slot.specs.Blocks.{length-block, part-block}
 use Rattle.book.specs.Layout.{port_words, port_at}
-use Rattle.book.specs.Rules.{held, port-held}
+use Rattle.book.proofs.Rules.{held, port-held}
 use Rattle.erbest.specs.Place.{best_in}
-use Rattle.bmca.specs.Words.{some-held}
+use Rattle.bmca.proofs.Words.{some-held}
 use Rattle.bmca.proofs.erbest_at.Goals as goal
 
 pub erbest-requires : goal.erbest-requires

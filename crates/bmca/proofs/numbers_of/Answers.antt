@@ -6,13 +6,13 @@ use mathlib.Core.List.{List, ◌++◌}
 use mathlib.Core.Path.{◌≡◌, refl, ap, ◌∙◌}
 use lib.Dec.{eqb}
 use lib.ListN.{drop, get_or, length-set}
-use Rattle.states.specs.Steps.{halved}
+use Rattle.states.proofs.Steps.{halved}
 use Rattle.recommend.specs.Number.{number_by}
 use Rattle.book.specs.Below.{tab}
-use Rattle.book.specs.Rules.{held}
-use Rattle.bmca.specs.Over.{over-tab}
+use Rattle.book.proofs.Rules.{held}
+use Rattle.bmca.proofs.Over.{over-tab}
 use Rattle.bmca.specs.Plan.{zeros, number_at, numbers_of}
-use Rattle.bmca.specs.Planned.{winner_in, number-at}
+use Rattle.bmca.proofs.Planned.{winner_in, number-at}
 use Rattle.bmca.proofs.numbers_of.Goals as goal
 
 pub loop-q-init : goal.loop-q-init

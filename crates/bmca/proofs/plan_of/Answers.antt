@@ -2,7 +2,7 @@
 use mathlib.Core.Path.{ap, ◌∙◌}
 use lib.ListN.{get_or}
 use Rattle.bmca.specs.Plan.{ebest_in, receiver_in}
-use Rattle.bmca.specs.Planned.{receiver-shown}
+use Rattle.bmca.proofs.Planned.{receiver-shown}
 use Rattle.bmca.proofs.plan_of.Goals as goal
 
 pub returns : goal.returns

@@ -4,11 +4,11 @@ use Prim.Native.Nat.{ℕ}
 use mathlib.Core.Path.{sym, ap, ◌∙◌}
 use lib.ListN.{get_or}
 use Rattle.recommend.specs.Number.{carrying_best, state_by}
-use Rattle.recommend.specs.Laws.{state_carries}
-use Rattle.book.specs.Rules.{held}
+use Rattle.recommend.proofs.Laws.{state_carries}
+use Rattle.book.proofs.Rules.{held}
 use Rattle.bmca.specs.Decide.{erbest_at}
 use Rattle.bmca.specs.Plan.{ebest_in, erbest_from, source_of}
-use Rattle.bmca.specs.Planned.{source-there, carried_from}
+use Rattle.bmca.proofs.Planned.{source-there, carried_from}
 use Rattle.bmca.proofs.state_at.Goals as goal
 
 pub returns-then-number-eq0 : goal.returns-then-number-eq0

@@ -3,7 +3,7 @@ use native.Mathlib.Omega.{arith}
 use mathlib.Core.Path.{ap, ◌∙◌}
 use Rattle.slot.specs.Blocks.{length-block, part-block}
 use Rattle.book.specs.Layout.{port_words, port_at}
-use Rattle.book.specs.Rules.{held, port-held}
+use Rattle.book.proofs.Rules.{held, port-held}
 use Rattle.erbest.specs.Place.{winner_place}
 use Rattle.bmca.proofs.winner_at.Goals as goal
 

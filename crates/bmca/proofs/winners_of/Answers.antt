@@ -6,8 +6,8 @@ use mathlib.Core.List.{◌++◌}
 use mathlib.Core.Path.{◌≡◌, refl, ap, ◌∙◌}
 use lib.ListN.{drop, get_or, length-set}
 use Rattle.book.specs.Below.{tab}
-use Rattle.book.specs.Rules.{held}
-use Rattle.bmca.specs.Over.{over-tab}
+use Rattle.book.proofs.Rules.{held}
+use Rattle.bmca.proofs.Over.{over-tab}
 use Rattle.bmca.specs.Plan.{zeros, winner_at, winners_of}
 use Rattle.bmca.proofs.winners_of.Goals as goal
 

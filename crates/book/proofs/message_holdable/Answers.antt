@@ -1,6 +1,6 @@
 -- `book::message_holdable` meets its contract. Assumes nothing.
 use borrow.Author.Tests.{lt-ltb, le-ltb}
-use Rattle.book.specs.Rules.{holdable-word}
+use Rattle.book.proofs.Rules.{holdable-word}
 use borrow.Author.Rules.{rules}
 use Rattle.book.proofs.message_holdable.Goals as goal
 

@@ -5,7 +5,7 @@ use Prim.Native.Nat.{ℕ, ◌-◌}
 use mathlib.Core.Path.{◌≡◌, refl, sym, ◌∙◌}
 use mathlib.Core.Bool.{Bool, true, and-false}
 use lib.ListN.{get_or, length-take, length-drop}
-use Rattle.slot.specs.Blocks.{block, get_d_block, part-block}
+use Rattle.slot.specs.Blocks.{block, get_or-block, part-block}
 use Rattle.store.specs.Below.{all-fails, all_more}
 use Rattle.store.specs.Layout.{head_words, port_words, port_at}
 use Rattle.book.specs.Rules.{port_sound, sound_words}
@@ -65,7 +65,7 @@ slice_bounds-port_sound-end c = omega arith
 pub port_sound-requires : goal.port_sound-requires
 port_sound-requires c =
     let s = c.args.store.now in
-    (simp length-take (omega arith), omega (arith, get_d_block s 0 head_words 3 (omega arith)), simp (length-take, length-drop) (omega arith))
+    (simp length-take (omega arith), omega (arith, get_or-block s 0 head_words 3 (omega arith)), simp (length-take, length-drop) (omega arith))
 
 pub returns-then-not-port_sound : goal.returns-then-not-port_sound
 unfolding sound_words

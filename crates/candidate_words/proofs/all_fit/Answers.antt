@@ -6,7 +6,7 @@ use mathlib.Core.Bool.{Bool, ◌&&◌}
 use native.Mathlib.Omega.{arith}
 use lib.ListN.{take, drop}
 use Rattle.candidate_words.specs.Words.{fits_candidate}
-use Rattle.candidate_words.specs.Laws.{rest_fits, fits_all_lem, fits_next, fits-end}
+use Rattle.candidate_words.proofs.Laws.{rest_fits, fits_all_lem, fits_next, fits-end}
 use Rattle.candidate_words.proofs.all_fit.Goals as goal
 
 pub loop-i-init : goal.loop-i-init

@@ -4,7 +4,7 @@ use Prim.Native.Nat.{◌≤◌, ◌-◌, ◌*◌}
 use mathlib.Core.Path.{◌≡◌}
 use lib.ListN.{length}
 use Rattle.candidate_words.specs.Words.{candidate_size, fits_all}
-use Rattle.candidate_words.specs.Laws.{rest_fits}
+use Rattle.candidate_words.proofs.Laws.{rest_fits}
 use Rattle.candidate_words.proofs.all_fit.Given as goal
 
 abbrev pub invariant-loop-i : goal.invariant-loop-i

@@ -7,9 +7,9 @@ use lib.ListN.{take, drop, length-take, length-drop}
 use Rattle.choice.specs.declared.Best.{Best}
 use Rattle.choice.specs.declared.Best.TheVariants.{Nothing}
 use Rattle.choice.specs.Candidate.{keep_all, keep_best}
-use Rattle.choice.specs.Steps.{steps-winner}
+use Rattle.choice.proofs.Steps.{steps-winner}
 use Rattle.candidate_words.specs.Words.{candidate_in, candidates_in}
-use Rattle.candidate_words.specs.Laws.{rest_of, rest_all, rest-next, rest_end}
+use Rattle.candidate_words.proofs.Laws.{rest_of, rest_all, rest-next, rest_end}
 use Rattle.candidate_words.proofs.best_of.Goals as goal
 
 pub loop-i-init : goal.loop-i-init

@@ -6,7 +6,7 @@ use lib.ListN.{length}
 use Rattle.choice.specs.declared.Best.TheVariants.{Nothing}
 use Rattle.choice.specs.Candidate.{keep_all}
 use Rattle.candidate_words.specs.Words.{candidate_size, candidates_in}
-use Rattle.candidate_words.specs.Laws.{rest_of}
+use Rattle.candidate_words.proofs.Laws.{rest_of}
 use Rattle.candidate_words.proofs.best_of.Given as goal
 
 abbrev pub invariant-loop-i : goal.invariant-loop-i

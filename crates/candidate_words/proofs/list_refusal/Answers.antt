@@ -2,7 +2,7 @@
 -- Assumes nothing.
 use mathlib.Core.Path.{sym, ◌∙◌}
 use mathlib.Core.Bool.{true, false}
-use Rattle.candidate_words.specs.Laws.{list_broken, list-fits}
+use Rattle.candidate_words.proofs.Laws.{list_broken, list-fits}
 use Rattle.candidate_words.proofs.list_refusal.Goals as goal
 
 pub returns-then-s-ne0 : goal.returns-then-s-ne0

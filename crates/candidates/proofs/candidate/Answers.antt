@@ -1,7 +1,7 @@
 -- `candidates::candidate` meets its contract. Assumes nothing.
 use mathlib.Core.Path.{sym, ◌∙◌}
-use Rattle.book.specs.Rules.{checked}
-use Rattle.candidates.specs.Steps.{answer-refused, answer-done}
+use Rattle.book.proofs.Rules.{checked}
+use Rattle.candidates.proofs.Steps.{answer-refused, answer-done}
 use Rattle.candidates.proofs.candidate.Goals as goal
 
 pub returns-then-n-ne0 : goal.returns-then-n-ne0

@@ -5,7 +5,7 @@ use borrow.Author.Tests.{leb-true}
 use lib.ListN.{get_or}
 use Rattle.choice.specs.Candidate.{candidate_of}
 use Rattle.offers.specs.Offers.{master_in, offers_at, best_at}
-use Rattle.candidates.specs.Steps.{place-right}
+use Rattle.candidates.proofs.Steps.{place-right}
 use Rattle.candidates.proofs.candidate_at.Goals as goal
 
 pub best_at-requires : goal.best_at-requires

@@ -6,12 +6,12 @@ use lib.ListN.{length, get_or}
 use Rattle.choice.specs.Candidate.{candidate_of}
 use Rattle.slot.specs.Blocks.{part-block, length-block}
 use Rattle.book.specs.Layout.{port_words, port_at, identity}
-use Rattle.book.specs.Rules.{held, port-held}
+use Rattle.book.proofs.Rules.{held, port-held}
 use Rattle.offers.specs.Offers.{offering, best_at}
 use Rattle.candidates.specs.declared.CandidateRead.TheVariants.{Found}
 use Rattle.candidates.specs.Candidates.{place_of}
 use Rattle.candidates.specs.View.{port_in}
-use Rattle.candidates.specs.Steps.{receiver-word, left-start, left-next, left-found, left-none}
+use Rattle.candidates.proofs.Steps.{receiver-word, left-start, left-next, left-found, left-none}
 use Rattle.candidates.proofs.candidate_in.Goals as goal
 
 pub loop-q-init : goal.loop-q-init

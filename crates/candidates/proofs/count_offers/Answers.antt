@@ -5,7 +5,7 @@ use native.Mathlib.Omega.{arith}
 use native.Mathlib.Numerals.{add-one}
 use lib.ListN.{length, get_or}
 use Rattle.offers.specs.Offers.{offers_at, down_from}
-use Rattle.candidates.specs.Steps.{count-more, count-le}
+use Rattle.candidates.proofs.Steps.{count-more, count-le}
 use Rattle.candidates.proofs.count_offers.Goals as goal
 
 pub loop-i-init : goal.loop-i-init

@@ -4,7 +4,7 @@ use mathlib.Core.Path.{refl, ap, ◌∙◌}
 use native.Mathlib.Omega.{arith}
 use lib.ListN.{drop, get_or}
 use Rattle.offers.specs.Offers.{offers_at, down_from}
-use Rattle.candidates.specs.Steps.{some_left, place_found, place-next}
+use Rattle.candidates.proofs.Steps.{some_left, place_found, place-next}
 use Rattle.candidates.proofs.place_of.Goals as goal
 
 pub loop-left-init : goal.loop-left-init

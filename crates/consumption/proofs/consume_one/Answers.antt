@@ -10,7 +10,7 @@ use Rattle.slot.specs.Blocks.{length-block, part-block, lent-block}
 use Rattle.book.specs.Layout.{master_words, master_at}
 use Rattle.offers.specs.Offers.{master_in}
 use Rattle.consumption.specs.Consume.{consumed, loses, consumed_at, gone_at}
-use Rattle.consumption.specs.Words.{loses-won, loses_silent, loses-offered, at-lost, at-kept, put_less}
+use Rattle.consumption.proofs.Words.{loses-won, loses_silent, loses-offered, at-lost, at-kept, put_less}
 use Rattle.consumption.proofs.consume_one.Goals as goal
 
 -- a master that does not lose

@@ -7,7 +7,7 @@ use mathlib.Core.List.{List}
 use native.Mathlib.Numerals.{add-one}
 use lib.ListN.{get_or}
 use Rattle.consumption.specs.Consume.{consumed_at, gone_at, consumed_below, gone_below, consumed_in, gone_in}
-use Rattle.consumption.specs.Words.{below-loses}
+use Rattle.consumption.proofs.Words.{below-loses}
 use Rattle.consumption.proofs.consume_port.Goals as goal
 
 pub loop-i-preserved : goal.loop-i-preserved

@@ -2,7 +2,7 @@
 -- Assumes nothing.
 use mathlib.Core.Path.{sym, ◌∙◌}
 use Rattle.decision.specs.State.{option_of}
-use Rattle.decision.specs.Steps.{low_below, low-above, low-within, class_low, class-high}
+use Rattle.decision.proofs.Steps.{low_below, low-above, low-within, class_low, class-high}
 use Rattle.decision.proofs.by_class.Goals as goal
 
 pub returns-then-class-lt-LOW_CLASS_FIRST : goal.returns-then-class-lt-LOW_CLASS_FIRST

@@ -2,7 +2,7 @@
 -- Assumes nothing.
 use mathlib.Core.Path.{sym, ◌∙◌}
 use Rattle.decision.specs.State.{option_of}
-use Rattle.decision.specs.Steps.{state-stays, state-found, state_deaf}
+use Rattle.decision.proofs.Steps.{state-stays, state-found, state_deaf}
 use Rattle.decision.proofs.calculate_recommended_state.Goals as goal
 
 pub returns-in-Nothing : goal.returns-in-Nothing

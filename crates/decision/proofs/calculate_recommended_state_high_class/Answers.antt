@@ -4,7 +4,7 @@ use mathlib.Core.Path.{sym, ap, ◌∙◌}
 use Rattle.compare.specs.declared.ComparisonDataset.{ComparisonDataset}
 use Rattle.decision.specs.declared.MessageComparison.{MessageComparison}
 use Rattle.decision.specs.State.{option_of, compare_d0, high_by}
-use Rattle.decision.specs.Steps.{against_none, against_found}
+use Rattle.decision.proofs.Steps.{against_none, against_found}
 use Rattle.decision.proofs.calculate_recommended_state_high_class.Goals as goal
 
 pub returns-in-Better : goal.returns-in-Better

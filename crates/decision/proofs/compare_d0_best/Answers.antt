@@ -2,7 +2,7 @@
 -- Assumes nothing.
 use mathlib.Core.Path.{sym, ap, ◌∙◌}
 use Rattle.compare.specs.Dataset.{compare_of, as_ordering}
-use Rattle.decision.specs.Steps.{compared}
+use Rattle.decision.proofs.Steps.{compared}
 use Rattle.decision.proofs.compare_d0_best.Goals as goal
 
 pub returns-in-Less : goal.returns-in-Less

@@ -2,7 +2,7 @@
 -- Assumes nothing.
 use mathlib.Core.Path.{sym, ap, ap₂, ◌∙◌}
 use Rattle.compare.specs.Dataset.{compare_of, is_by_topology}
-use Rattle.decision.specs.Steps.{state-same, state-near, state-far}
+use Rattle.decision.proofs.Steps.{state-same, state-near, state-far}
 use Rattle.decision.proofs.compare_global_and_port.Goals as goal
 
 pub returns-then-same_best : goal.returns-then-same_best

@@ -1,7 +1,7 @@
 -- `same_best` meets its contract: each return has the tests that led there.
 -- Assumes nothing.
 use mathlib.Core.Path.{sym, ◌∙◌}
-use Rattle.decision.specs.Steps.{other-port, other-age, same_rest}
+use Rattle.decision.proofs.Steps.{other-port, other-age, same_rest}
 use Rattle.decision.proofs.same_best.Goals as goal
 
 pub returns-then-a-b : goal.returns-then-a-b

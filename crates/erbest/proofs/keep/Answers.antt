@@ -6,7 +6,7 @@ use borrow.Author.Tests.{leb-true}
 use lib.ListN.{get_or, length, take, drop, length-take, length-drop}
 use Rattle.slot.specs.Blocks.{part-block}
 use Rattle.offers.specs.Offers.{master_in}
-use Rattle.erbest.specs.Place.{keep_silent, keep-first, keep-held, keep-next}
+use Rattle.erbest.proofs.Place.{keep_silent, keep-first, keep-held, keep-next}
 use Rattle.erbest.proofs.keep.Goals as goal
 
 pub returns-then-not-offers : goal.returns-then-not-offers

@@ -4,7 +4,8 @@ use mathlib.Core.Path.{◌≡◌, refl, sym, ap, ◌∙◌}
 use native.Mathlib.Omega.{arith}
 use lib.ListN.{get_or}
 use Rattle.offers.specs.Offers.{offers_at, down_from}
-use Rattle.erbest.specs.Place.{stays_in, walk, winner_place, offered-kept, walk_turn}
+use Rattle.erbest.specs.Place.{stays_in, walk, winner_place}
+use Rattle.erbest.proofs.Place.{offered-kept, walk_turn}
 use Rattle.erbest.proofs.port_winner.Goals as goal
 
 pub bounds-port-1 : goal.bounds-port-1

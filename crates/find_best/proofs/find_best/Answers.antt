@@ -1,7 +1,7 @@
 -- `find_best::find_best` meets its contract: the steps from nothing are the choice of the whole list.
 -- Assumes nothing.
 use Rattle.std.proofs.Common.{rules}
-use Rattle.choice.specs.Steps.{steps-winner}
+use Rattle.choice.proofs.Steps.{steps-winner}
 use Rattle.find_best.proofs.find_best.Goals as goal
 
 pub loop-i-init : goal.loop-i-init

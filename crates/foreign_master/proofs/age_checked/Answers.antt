@@ -3,8 +3,9 @@ use mathlib.Core.Path.{sym, ap, ◌∙◌}
 use Rattle.history.specs.Book.{age}
 use Rattle.ageing.specs.Age.{aged_store}
 use Rattle.foreign_master.specs.declared.Answer.TheVariants.{Done}
-use Rattle.book.specs.Rules.{checked}
-use Rattle.foreign_master.specs.Steps.{refused-first, gone, step-refused, step-taken}
+use Rattle.book.proofs.Rules.{checked}
+use Rattle.foreign_master.specs.Steps.{gone}
+use Rattle.foreign_master.proofs.Steps.{refused-first, step-refused, step-taken}
 use Rattle.foreign_master.proofs.age_checked.Goals as goal
 
 pub returns-then-checked-ne0 : goal.returns-then-checked-ne0

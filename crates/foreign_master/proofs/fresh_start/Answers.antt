@@ -1,7 +1,7 @@
 -- `foreign_master::fresh_start` meets its contract. Assumes nothing.
 use mathlib.Core.Path.{sym, ◌∙◌}
 use Rattle.fresh.specs.Fresh.{site_with}
-use Rattle.foreign_master.specs.Steps.{short-refused, settings_refused, begins}
+use Rattle.foreign_master.proofs.Steps.{short-refused, settings_refused, begins}
 use Rattle.foreign_master.proofs.fresh_start.Goals as goal
 
 pub returns-then-store-lt-STORE_WORDS : goal.returns-then-store-lt-STORE_WORDS

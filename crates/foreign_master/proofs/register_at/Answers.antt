@@ -1,10 +1,11 @@
 -- `foreign_master::register_at` meets its contract. Assumes nothing.
 use mathlib.Core.Path.{◌≡◌, sym, ap, ◌∙◌}
 use Rattle.refusal.specs.Refusal.{refusal_in}
-use Rattle.admission.specs.StoreView.{room-there}
+use Rattle.admission.proofs.StoreView.{room-there}
 use Rattle.foreign_master.specs.declared.Answer.TheVariants.{Done}
 use Rattle.foreign_master.specs.Calls.{held_of}
-use Rattle.foreign_master.specs.Steps.{put_out, taking-refused, taking-done}
+use Rattle.foreign_master.specs.Steps.{put_out}
+use Rattle.foreign_master.proofs.Steps.{taking-refused, taking-done}
 use Rattle.foreign_master.proofs.register_at.Goals as goal
 
 pub returns-then-n-ne0 : goal.returns-then-n-ne0

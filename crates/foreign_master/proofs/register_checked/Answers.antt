@@ -5,8 +5,8 @@ use Rattle.wire.specs.Be.{Bytes}
 use Rattle.frame.specs.Frame.{read_frame}
 use Rattle.slot.specs.Slot.{narrow}
 use Rattle.foreign_master.specs.Calls.{register_call, taken_in, frame_of, held_of}
-use Rattle.book.specs.Rules.{checked}
-use Rattle.foreign_master.specs.Steps.{refused-first, no-port, whole_frame, port-below, port-refused, port-taken}
+use Rattle.book.proofs.Rules.{checked}
+use Rattle.foreign_master.proofs.Steps.{refused-first, no-port, whole_frame, port-below, port-refused, port-taken}
 use Rattle.foreign_master.proofs.register_checked.Goals as goal
 
 pub returns-then-checked-ne0 : goal.returns-then-checked-ne0

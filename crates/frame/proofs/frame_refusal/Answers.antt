@@ -8,7 +8,7 @@ use lib.ListN.{length, take, drop}
 use Rattle.wire.specs.Be.{be_at}
 use Rattle.tlv.specs.Tlv.{check_list}
 use Rattle.frame.specs.Frame.{size_at, refusal_of}
-use Rattle.frame.specs.Laws.{Passed, front, frame_1, frame_front, frame_tlvs, passed-back}
+use Rattle.frame.proofs.Laws.{Passed, front, frame_1, frame_front, frame_tlvs, passed-back}
 use Rattle.frame.proofs.frame_refusal.Goals as goal
 
 -- the number of the checks is that of the definition

@@ -2,7 +2,7 @@
 -- Assumes nothing.
 use mathlib.Core.Path.{sym, ◌∙◌}
 use native.Mathlib.Omega.{arith}
-use Rattle.frame.specs.Laws.{frame_passed, read-refused, read_done}
+use Rattle.frame.proofs.Laws.{frame_passed, read-refused, read_done}
 use Rattle.frame.proofs.read_frame.Goals as goal
 
 pub returns-then-n-ne0 : goal.returns-then-n-ne0

@@ -1,7 +1,7 @@
 -- `frame::refusal_of` meets its contract, by the law of each answer.
 -- Assumes nothing.
 use mathlib.Core.Path.{sym, ◌∙◌}
-use Rattle.frame.specs.Laws.{refused_2, refused_3, refused_1, refused_5, refused-short, passed}
+use Rattle.frame.proofs.Laws.{refused_2, refused_3, refused_1, refused_5, refused-short, passed}
 use Rattle.frame.proofs.refusal_of.Goals as goal
 
 pub returns-then-size-lt-HEADER_SIZE : goal.returns-then-size-lt-HEADER_SIZE

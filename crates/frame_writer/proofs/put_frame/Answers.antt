@@ -1,6 +1,6 @@
 -- `frame_writer::put_frame` meets its contract: header, content and TLVs, one after the other.
 -- Assumes nothing.
-use Rattle.announce.specs.Message.{with_message}
+use Rattle.announce.proofs.Message.{with_message}
 use Rattle.frame_writer.specs.Frame.{with_frame}
 use Rattle.frame_writer.proofs.put_frame.Goals as goal
 

@@ -4,7 +4,7 @@ use Prim.Native.Nat.{ℕ, ◌-◌}
 use mathlib.Core.Path.{◌≡◌, refl, sym, ap, ◌∙◌}
 use lib.ListN.{length-set}
 use Rattle.wire.specs.Be.{put}
-use Rattle.wire.specs.BeLaws.{put-nil}
+use Rattle.wire.proofs.BeLaws.{put-nil}
 use Rattle.book.specs.Below.{tab}
 use Rattle.book.specs.Layout.{store_words}
 use Rattle.fresh.specs.Fresh.{site_with, fresh_word, begun}

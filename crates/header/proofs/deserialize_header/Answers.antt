@@ -3,7 +3,7 @@
 use mathlib.Core.Path.{sym, ap, ◌∙◌}
 use Prim.Native.Nat.{ℕ, ◌%◌}
 use Rattle.message_type.specs.Types.{type_of}
-use Rattle.header.specs.Laws.{read_1, read_2, read_0}
+use Rattle.header.proofs.Laws.{read_1, read_2, read_0}
 use Rattle.header.proofs.deserialize_header.Goals as goal
 
 pub returns-then-buffer-lt-HEADER_SIZE : goal.returns-then-buffer-lt-HEADER_SIZE

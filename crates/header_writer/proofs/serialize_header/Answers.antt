@@ -5,7 +5,7 @@ use mathlib.Core.Path.{sym, ◌∙◌}
 use native.Mathlib.Omega.{arith}
 use Rattle.wire.specs.Write.{wrote_15, wrote_1, wrote_0}
 use Rattle.header.specs.Wire.{fits_of, with_header}
-use Rattle.header.specs.Laws.{fitting}
+use Rattle.header.proofs.Laws.{fitting}
 use Rattle.header_writer.proofs.serialize_header.Goals as goal
 
 pub returns-then-not-fits : goal.returns-then-not-fits

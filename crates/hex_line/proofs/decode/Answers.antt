@@ -1,6 +1,6 @@
 -- `hex_line::decode` meets its contract, by the laws of a whole line. Assumes nothing.
 use mathlib.Core.Path.{sym, ◌∙◌}
-use Rattle.hex_line.specs.HexLaws.{too_long, odd, no_room, all_digits, some-other}
+use Rattle.hex_line.proofs.HexLaws.{too_long, odd, no_room, all_digits, some-other}
 use Rattle.hex_line.proofs.decode.Goals as goal
 
 pub returns-then-misses-eq0 : goal.returns-then-misses-eq0

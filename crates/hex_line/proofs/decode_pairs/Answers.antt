@@ -2,7 +2,7 @@
 use Prim.Native.Nat.{◌-◌}
 use native.Mathlib.Omega.{arith}
 use lib.ListN.{length-set}
-use Rattle.hex_line.specs.HexLaws.{at-end, pair, onward}
+use Rattle.hex_line.proofs.HexLaws.{at-end, pair, onward}
 use Rattle.hex_line.proofs.decode_pairs.Goals as goal
 
 pub loop-i-preserved : goal.loop-i-preserved

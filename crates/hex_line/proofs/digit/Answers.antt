@@ -1,6 +1,6 @@
 -- `hex_line::digit` meets its contract, by tests computed over all bytes. Assumes nothing.
 use borrow.Author.Rules.{rules}
-use Rattle.hex_line.specs.HexLaws.{stepped-room, digit_is, digit_none}
+use Rattle.hex_line.proofs.HexLaws.{stepped-room, digit_is, digit_none}
 use Rattle.hex_line.proofs.digit.Goals as goal
 
 pub overflow_sub-v-3 : goal.overflow_sub-v-3

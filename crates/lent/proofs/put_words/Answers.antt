@@ -8,7 +8,7 @@ use native.Mathlib.Omega.{arith}
 use lib.ListN.{length, take, get_or, set, length-set}
 use lib.Seq.{length-take-le, take-length, take-suc}
 use Rattle.wire.specs.Be.{put}
-use Rattle.wire.specs.BeLaws.{put-nil}
+use Rattle.wire.proofs.BeLaws.{put-nil}
 use Rattle.lent.specs.Laws.{put_next}
 use Rattle.lent.proofs.put_words.Goals as goal
 

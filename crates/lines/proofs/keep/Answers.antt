@@ -4,7 +4,7 @@ use mathlib.Core.Path.{◌≡◌, sym, ap, ◌∙◌}
 use native.Mathlib.Omega.{arith}
 use lib.ListN.{length}
 use Rattle.lines.specs.Lines.{next_line}
-use Rattle.lines.specs.Turns.{passed_to}
+use Rattle.lines.proofs.Turns.{passed_to}
 use Rattle.lines.proofs.keep.Goals as goal
 
 pub returns-then-count-limit : goal.returns-then-count-limit

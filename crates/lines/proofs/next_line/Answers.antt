@@ -2,7 +2,7 @@
 use mathlib.Core.Path.{◌≡◌, refl}
 use native.Mathlib.Omega.{arith}
 use lib.ListN.{length}
-use Rattle.lines.specs.Turns.{all-taken, short-ends, long-ends}
+use Rattle.lines.proofs.Turns.{all-taken, short-ends, long-ends}
 use Rattle.lines.proofs.next_line.Goals as goal
 
 pub returns-then-from-piece-clause-is : goal.returns-then-from-piece-clause-is

@@ -2,7 +2,7 @@
 use mathlib.Core.Path.{◌∙◌}
 use native.Mathlib.Omega.{arith}
 use lib.ListN.{length-set}
-use Rattle.lines.specs.Turns.{kept-one}
+use Rattle.lines.proofs.Turns.{kept-one}
 use Rattle.lines.proofs.store.Goals as goal
 
 pub loop-at-preserved : goal.loop-at-preserved

@@ -3,7 +3,7 @@ use Prim.Native.Nat.{ℕ, ◌/◌, ◌^◌}
 use mathlib.Core.Path.{◌≡◌, sym, ap, ◌∙◌}
 use native.Mathlib.Omega.{arith}
 use native.Mathlib.Nat.{div-one}
-use Rattle.states.specs.Steps.{halved}
+use Rattle.states.proofs.Steps.{halved}
 use Rattle.log_decision.proofs.above.Goals as goal
 
 pub loop-i-init : goal.loop-i-init

@@ -2,7 +2,7 @@
 use mathlib.Core.Path.{refl}
 use borrow.Author.Rules.{rules}
 use Rattle.log_answer.specs.Steps.{answers_by, shapeless_told}
-use Rattle.log_asked.specs.Steps.{empty-line, kind_0, before-setup, kinds}
+use Rattle.log_asked.proofs.Steps.{empty-line, kind_0, before-setup, kinds}
 use Rattle.log_line.proofs.answer.Statement.{statement}
 use Rattle.log_line.proofs.answer.Tie as tie
 

@@ -2,7 +2,7 @@
 use mathlib.Core.Path.{refl}
 use borrow.Author.Rules.{rules}
 use Rattle.log_answer.specs.Steps.{answers_by, shapeless_told}
-use Rattle.log_asked.specs.Steps.{kind_1, kind_2, kind_3, kind_other}
+use Rattle.log_asked.proofs.Steps.{kind_1, kind_2, kind_3, kind_other}
 use Rattle.log_line.proofs.kind_line.Statement.{statement}
 use Rattle.log_line.proofs.kind_line.Tie as tie
 

@@ -1,6 +1,6 @@
 -- `log_line::line_checked` meets its contract. Assumes nothing.
 use borrow.Author.Rules.{rules}
-use Rattle.log_asked.specs.Steps.{no_room, room}
+use Rattle.log_asked.proofs.Steps.{no_room, room}
 use Rattle.log_line.proofs.line_checked.Statement.{statement}
 use Rattle.log_line.proofs.line_checked.Tie as tie
 

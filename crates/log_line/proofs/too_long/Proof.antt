@@ -1,6 +1,6 @@
 -- `log_line::too_long` meets its contract. Assumes nothing.
 use borrow.Author.Rules.{rules}
-use Rattle.log_asked.specs.Steps.{none-room, none_told}
+use Rattle.log_asked.proofs.Steps.{none-room, none_told}
 use Rattle.log_line.proofs.too_long.Statement.{statement}
 use Rattle.log_line.proofs.too_long.Tie as tie
 

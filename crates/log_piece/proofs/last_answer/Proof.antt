@@ -1,7 +1,7 @@
 -- `log_piece::last_answer` meets its contract, by what stands open. Assumes nothing.
 use mathlib.Core.Path.{sym, ◌∙◌}
 use borrow.Author.Rules.{rules}
-use Rattle.log_step.specs.Steps.{line-rest, long_rest, none_rest}
+use Rattle.log_step.proofs.Steps.{line-rest, long_rest, none_rest}
 use Rattle.log_piece.proofs.last_answer.Statement.{statement}
 use Rattle.log_piece.proofs.last_answer.Tie as tie
 

@@ -2,7 +2,7 @@
 -- Assumes nothing.
 use mathlib.Core.Path.{sym}
 use borrow.Author.Tests.{le-leb}
-use Rattle.decision.specs.Steps.{low_below}
+use Rattle.decision.proofs.Steps.{low_below}
 use Rattle.decision.specs.State.{low}
 use Rattle.recommend.proofs.is_low.Goals as goal
 

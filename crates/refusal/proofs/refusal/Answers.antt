@@ -4,9 +4,9 @@ use native.Mathlib.Omega.{arith}
 use mathlib.Core.Path.{◌∙◌, ap}
 use mathlib.Core.List.{List}
 use lib.ListN.{length-take}
-use Rattle.slot.specs.Blocks.{block, length-block, get_d_block, part-block}
+use Rattle.slot.specs.Blocks.{block, length-block, get_or-block, part-block}
 use Rattle.book.specs.Layout.{head_words, port_words, port_at}
-use Rattle.book.specs.Rules.{held, held-port}
+use Rattle.book.proofs.Rules.{held, held-port}
 use Rattle.history.specs.Port.{sender, sequence, steps}
 use Rattle.book.specs.Layout.{reads}
 use Rattle.refusal.specs.Refusal.{refusal_at, refusal_in}
@@ -38,7 +38,7 @@ refusal_at-requires c = let a = c in
     let s = a.args.store.now in
     let q = a.args.q in
     let h = held s a.requires.1 in
-    rw part-block (record { head_len = (simp length-take (omega arith), omega (arith, get_d_block s 0 head_words 3 (omega arith)), length-block s (port_at q) port_words (omega arith)); held_port = held-port (block s 0 head_words) (block s (port_at q) port_words) (h.port q a.requires.2) })
+    rw part-block (record { head_len = (simp length-take (omega arith), omega (arith, get_or-block s 0 head_words 3 (omega arith)), length-block s (port_at q) port_words (omega arith)); held_port = held-port (block s 0 head_words) (block s (port_at q) port_words) (h.port q a.requires.2) })
 
 pub returns : goal.returns
 unfolding refusal_in

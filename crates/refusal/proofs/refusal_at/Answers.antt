@@ -1,6 +1,6 @@
 -- `refusal::refusal_at` meets its contract. Assumes nothing.
 use borrow.Author.Tests.{le-leb, lt-leb, eq-eqb, ne_eqb}
-use Rattle.book.specs.Rules.{held-master}
+use Rattle.book.proofs.Rules.{held-master}
 use Rattle.refusal.specs.Refusal.{refusal_at}
 use Rattle.refusal.proofs.refusal_at.Goals as goal
 

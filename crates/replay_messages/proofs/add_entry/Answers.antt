@@ -1,6 +1,6 @@
 -- `replay_messages::add_entry` meets its contract: a builder that takes an entry stays within the buffer. Assumes nothing.
 use Rattle.std.proofs.Common.{sym, ◌∙◌, arith}
-use Rattle.tlv_builder.specs.BuilderLaws.{added_within}
+use Rattle.tlv_builder.proofs.BuilderLaws.{added_within}
 use Rattle.replay_messages.proofs.add_entry.Goals as goal
 
 pub returns-in-Done : goal.returns-in-Done

@@ -1,6 +1,6 @@
 -- `replay_messages::answer_frame` is safe: the TLVs of a message are within its frame. Assumes nothing.
 use Rattle.std.proofs.Common.{sym, ◌∙◌}
-use Rattle.frame_laws.specs.Accepted.{tlvs-within}
+use Rattle.frame_laws.proofs.Accepted.{tlvs-within}
 use Rattle.replay_messages.proofs.answer_frame.Goals as goal
 
 pub slice_bounds-answer_message-count : goal.slice_bounds-answer_message-count

@@ -1,6 +1,6 @@
 -- `replay_messages::answer_tlvs` meets its contract and ends: each entry is within the list, and the next one is further on. Assumes nothing.
 use Rattle.std.proofs.Common.{sym, ◌∙◌, arith}
-use Rattle.tlv.specs.Laws.{entry_read}
+use Rattle.tlv.proofs.Laws.{entry_read}
 use Rattle.replay_messages.proofs.answer_tlvs.Goals as goal
 
 pub overflow_add-end : goal.overflow_add-end

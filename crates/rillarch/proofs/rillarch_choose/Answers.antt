@@ -3,9 +3,9 @@
 use mathlib.Core.Path.{sym, ap, ◌∙◌}
 use Rattle.wire.specs.Be.{put}
 use Rattle.lent.specs.Laws.{lent-short, lent-enough}
-use Rattle.wire.specs.BeLaws.{put-nil}
+use Rattle.wire.proofs.BeLaws.{put-nil}
 use Rattle.answers.specs.Answers.{found_size, best_words}
-use Rattle.rillarch.specs.Laws.{choose-none, choose-done}
+use Rattle.rillarch.proofs.Laws.{choose-none, choose-done}
 use Rattle.rillarch.proofs.rillarch_choose.Goals as goal
 
 pub returns-then-answer-lt-FOUND_WORDS : goal.returns-then-answer-lt-FOUND_WORDS

@@ -5,14 +5,14 @@ use mathlib.Core.List.{[], ◌∷◌}
 use mathlib.Core.Path.{◌≡◌, sym, ap, ap₂, ◌∙◌}
 use Rattle.wire.specs.Be.{put}
 use Rattle.lent.specs.Laws.{lent-short, lent-enough, lent-room}
-use Rattle.wire.specs.BeLaws.{put-nil}
+use Rattle.wire.proofs.BeLaws.{put-nil}
 use Rattle.compare.specs.Dataset.{compare_of}
 use Rattle.choice.specs.declared.Candidate.{Candidate}
 use Rattle.choice.specs.Candidate.{dataset_of}
 use Rattle.lent.specs.Laws.{put_one}
 use Rattle.candidate_words.specs.Words.{candidate_size, candidate_in}
 use Rattle.answers.specs.Answers.{verdict_number}
-use Rattle.rillarch.specs.Laws.{compare_left, compare_right, compare_none, compare_done}
+use Rattle.rillarch.proofs.Laws.{compare_left, compare_right, compare_none, compare_done}
 use Rattle.rillarch.proofs.rillarch_compare.Goals as goal
 
 pub returns-then-answer-lt1 : goal.returns-then-answer-lt1

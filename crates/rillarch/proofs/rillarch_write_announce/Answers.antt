@@ -4,7 +4,7 @@ use mathlib.Core.Path.{sym, ap, ◌∙◌}
 use Rattle.lent.specs.Laws.{lent-room}
 use Rattle.frame_writer.specs.Frame.{write_answer, write_exit}
 use Rattle.announce_words.specs.Words.{announce_size}
-use Rattle.rillarch.specs.Laws.{write-refused, write_done}
+use Rattle.rillarch.proofs.Laws.{write-refused, write_done}
 use Rattle.rillarch.proofs.rillarch_write_announce.Goals as goal
 
 pub returns-then-n-ne0 : goal.returns-then-n-ne0

@@ -6,7 +6,7 @@ use lib.ListN.{length, take, drop, length-drop}
 use lib.Seq.{length-take-le}
 use Rattle.lines.specs.Lines.{next_line}
 use Rattle.log_step.specs.Piece.{StepWithin}
-use Rattle.log_step.specs.Steps.{step-known}
+use Rattle.log_step.proofs.Steps.{step-known}
 use borrow.Author.Rules.{rules}
 use Rattle.rillarch_log.proofs.answer_after.Statement.{statement}
 use Rattle.rillarch_log.proofs.answer_after.Tie as tie

@@ -9,7 +9,7 @@ use lib.ListN.{length, drop, drop_of_length-le}
 use lib.Seq.{drop-cons}
 use borrow.Author.Rules.{rules}
 use Rattle.decision.specs.State.{option_of}
-use Rattle.states.specs.Steps.{keep_all, steps-ebest}
+use Rattle.states.proofs.Steps.{keep_all, steps-ebest}
 use Rattle.states.proofs.ebest.Goals as goal
 
 pub loop-i-init : goal.loop-i-init

@@ -6,7 +6,7 @@ use mathlib.Core.Option.{none}
 use Prim.Native.Nat.{◌≤◌, ◌-◌}
 use lib.ListN.{length, drop}
 use Rattle.decision.specs.State.{option_of}
-use Rattle.states.specs.Steps.{keep_all}
+use Rattle.states.proofs.Steps.{keep_all}
 use Rattle.states.proofs.ebest.Given as goal
 
 abbrev pub invariant-loop-i : goal.invariant-loop-i

@@ -2,7 +2,7 @@
 -- Assumes nothing.
 use mathlib.Core.Path.{sym, ap₂, ◌∙◌}
 use Rattle.choice.specs.Candidate.{stays}
-use Rattle.states.specs.Steps.{keep-alone, keep-first, keep-held, keep-next}
+use Rattle.states.proofs.Steps.{keep-alone, keep-first, keep-held, keep-next}
 use Rattle.states.proofs.keep.Goals as goal
 
 pub returns-in-Nothing : goal.returns-in-Nothing

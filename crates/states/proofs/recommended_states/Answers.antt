@@ -8,7 +8,7 @@ use lib.ListN.{length, length-set}
 use borrow.Author.Rules.{rules}
 use Rattle.decision.specs.State.{option_of}
 use Rattle.states.specs.Ports.{answers_from}
-use Rattle.states.specs.Steps.{halved, answered-next, answered-all}
+use Rattle.states.proofs.Steps.{halved, answered-next, answered-all}
 use Rattle.states.proofs.recommended_states.Goals as goal
 
 pub loop-i-init : goal.loop-i-init

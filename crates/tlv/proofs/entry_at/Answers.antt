@@ -3,7 +3,7 @@
 use Prim.Native.Nat.{ℕ, ◌%◌}
 use mathlib.Core.Path.{sym, ap, ◌∙◌}
 use native.Mathlib.Omega.{arith}
-use Rattle.tlv.specs.Laws.{read_none, read-few, read-odd, read_past, read-entry}
+use Rattle.tlv.proofs.Laws.{read_none, read-few, read-odd, read_past, read-entry}
 use Rattle.tlv.proofs.entry_at.Goals as goal
 
 pub returns-then-s-at : goal.returns-then-s-at

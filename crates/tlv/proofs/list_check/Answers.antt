@@ -11,7 +11,7 @@ use Rattle.tlv.specs.declared.TlvRead.{TlvRead}
 use Rattle.tlv.specs.declared.TlvCursor.{TlvCursor}
 use Rattle.tlv.specs.declared.TlvRead.TheVariants.{End, Refused, Entry}
 use Rattle.tlv.specs.Tlv.{entry_at, check_read, list_check}
-use Rattle.tlv.specs.Laws.{entry_read, unrolled}
+use Rattle.tlv.proofs.Laws.{entry_read, unrolled}
 use Rattle.tlv.proofs.list_check.Goals as goal
 
 -- a part that goes to the end, and its length

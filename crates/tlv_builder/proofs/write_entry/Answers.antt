@@ -6,7 +6,7 @@ use lib.ListN.{length}
 use Rattle.wire.specs.Be.{put}
 use Rattle.wire.specs.Write.{wrote_15, wrote_1, wrote_0}
 use Rattle.tlv_builder.specs.Builder.{entry_bytes, entry_fits}
-use Rattle.tlv_builder.specs.BuilderLaws.{odd_unfit, long_unfit, even-fits, laid}
+use Rattle.tlv_builder.proofs.BuilderLaws.{odd_unfit, long_unfit, even-fits, laid}
 use Rattle.tlv_builder.proofs.write_entry.Goals as goal
 
 pub returns-then-n-ne0 : goal.returns-then-n-ne0

@@ -6,7 +6,7 @@ use native.Mathlib.Omega.{arith}
 use native.Mathlib.Numerals.{add-one}
 use lib.Dec.{lit<}
 use Rattle.wire.specs.Be.{be_at}
-use Rattle.wire.specs.BeLaws.{more, more-fits}
+use Rattle.wire.proofs.BeLaws.{more, more-fits}
 use Rattle.wire.proofs.be.Goals as goal
 
 pub loop-i-init : goal.loop-i-init

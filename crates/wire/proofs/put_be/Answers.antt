@@ -4,7 +4,7 @@ use mathlib.Core.Path.{◌≡◌, refl, sym, ◌∙◌}
 use native.Mathlib.Omega.{arith}
 use lib.ListN.{length-set}
 use Rattle.wire.specs.Be.{bytes_of}
-use Rattle.wire.specs.BeLaws.{put-nil, put_lowest}
+use Rattle.wire.proofs.BeLaws.{put-nil, put_lowest}
 use Rattle.wire.proofs.put_be.Goals as goal
 
 pub loop-left-init : goal.loop-left-init

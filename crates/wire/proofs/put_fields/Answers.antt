@@ -6,7 +6,7 @@ use mathlib.Core.Path.{◌≡◌, refl, sym, ◌∙◌}
 use native.Mathlib.Omega.{arith}
 use lib.ListN.{length, get_or}
 use Rattle.wire.specs.Be.{bytes_of, put}
-use Rattle.wire.specs.LayoutLaws.{total-next, put_all-next, put_all-end, put_all-put}
+use Rattle.wire.proofs.LayoutLaws.{total-next, put_all-next, put_all-end, put_all-put}
 use Rattle.wire.proofs.put_fields.Goals as goal
 
 pub loop-i-init : goal.loop-i-init

@@ -1,7 +1,7 @@
 -- `compare` meets its contract: by whether the grandmasters are the same.
 -- Assumes nothing.
 use mathlib.Core.Path.{sym, ◌∙◌}
-use Rattle.compare.specs.Laws.{same-grandmaster, other-grandmaster}
+use Rattle.compare.proofs.Laws.{same-grandmaster, other-grandmaster}
 use borrow.Author.Rules.{rules}
 use Rattle.compare.proofs.ComparisonDataset.compare.Goals as goal
 

@@ -1,7 +1,7 @@
 -- `compare_same_identity` meets its contract: each return is a case of figure 35.
 -- Assumes nothing.
 use mathlib.Core.Path.{sym, ◌∙◌}
-use Rattle.compare.specs.Laws.{far-above, far-below, above, below, level}
+use Rattle.compare.proofs.Laws.{far-above, far-below, above, below, level}
 use borrow.Author.Rules.{rules}
 use Rattle.compare.proofs.ComparisonDataset.compare_same_identity.Goals as goal
 

@@ -9,7 +9,7 @@ use lib.ListN.{length}
 use Rattle.wire.specs.Be.{put}
 use Rattle.wire.specs.Write.{WroteAll, done}
 use Rattle.tlv_builder.specs.Builder.{entry_bytes, entry_fits, entry_answer, entry_exit, add_answer, add_exit}
-use Rattle.tlv_builder.specs.BuilderLaws.{same_answer, add_done, add-refused, read_done, read-refused}
+use Rattle.tlv_builder.proofs.BuilderLaws.{same_answer, add_done, add-refused, read_done, read-refused}
 use Rattle.tlv_builder.proofs.TlvSetBuilder.add.Goals as goal
 
 -- at the return of the entry writer: its answer is n, and what it left in the rest is m

@@ -1,0 +1,3 @@
+pub mod MasterView
+pub mod PortView
+pub mod StoreView

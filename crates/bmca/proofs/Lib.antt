@@ -1,0 +1,5 @@
+pub mod Over
+pub mod Words
+pub mod View
+pub mod Planned
+pub mod Laws

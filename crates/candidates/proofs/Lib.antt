@@ -1,0 +1,5 @@
+pub mod View
+pub mod Nth
+pub mod Steps
+pub mod Laid
+pub mod Once

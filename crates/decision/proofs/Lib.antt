@@ -1,0 +1,4 @@
+pub mod Answer
+pub mod Steps
+pub mod Lines
+pub mod Reasons

@@ -1,0 +1,5 @@
+pub mod Views
+pub mod Stretch
+pub mod Alone
+pub mod Decisions
+pub mod Laws
