@@ -1,7 +1,7 @@
 -- A registration over the store's words is the registration over its book: the refusal, the book afterwards, and how many are put out.
 -- Assumes nothing.
 use Prim.Native.Nat.{ℕ, zero, suc, ◌+◌, ◌≤◌, ◌<◌}
-use Rattle.std.specs.Prelude.{◌≡◌, Bool, true, get_or}
+use Rattle.std.specs.Prelude.{◌≡◌, true, get_or}
 use Rattle.std.proofs.Math.Path.{refl, sym, ap, ap₂}
 use Rattle.std.proofs.Common.{◌∙◌, not-suc-le-zero, zero-add, add-zero, eq-eqb, ne_eqb, eqb-true}
 use Rattle.std.proofs.Math.Bool.{cond}
@@ -17,7 +17,7 @@ use Rattle.slot.specs.Slot.{Whole, aged}
 use Rattle.slot.specs.declared.ForeignAnnounceMessage.{ForeignAnnounceMessage}
 use Rattle.history.specs.Rules.{masters_max}
 use Rattle.history.specs.Port.{Site, Port, Turn, Frame, PortCall, idle, hear, announce, sender, admit, holding, refusal, register_port, taking, unchanged, hearing, turn}
-use Rattle.history.specs.Book.{Book, Call, register, share, turns_from, turns, after, total, answer_from, number}
+use Rattle.history.specs.Book.{Call, register, share, turns_from, turns, after, total, answer_from, number}
 use Rattle.history.proofs.Tests.{by}
 use Rattle.history.proofs.Parts.{accepted-parts}
 use Rattle.book.specs.Below.{tab, tab-ext, map-tab}

@@ -1,9 +1,8 @@
 -- Each way through the calls, for the proofs of the code.
 -- Assumes nothing.
-use Rattle.std.specs.Prelude.{ℕ, ◌-◌, List}
+use Rattle.std.specs.Prelude.{ℕ, List}
 use Rattle.wire.specs.Refusal.{on_zero}
 use Rattle.announce.specs.declared.AnnounceMessage.{AnnounceMessage}
-use Rattle.history.specs.Book.{register, age}
 use Rattle.refusal.specs.Refusal.{refusal_in}
 use Rattle.admission.specs.Admit.{evicted_in, registered_in}
 use Rattle.ageing.specs.Age.{aged_out}

@@ -15,7 +15,6 @@ use Rattle.choice.specs.Choice.{choose, joined, present, AllOf}
 use Rattle.choice.specs.Candidate.{whole, stays_by, winner, erbests, ebest}
 use Rattle.choice.proofs.Chosen.{all_in, choose_has}
 use Rattle.decision.specs.declared.RecommendedState.{RecommendedState}
-use Rattle.decision.specs.declared.RecommendedState.TheVariants.{S1}
 use Rattle.decision.specs.State.{low, state_of}
 use Rattle.decision.proofs.Reasons.{own_below, Reason, stay, m1_alone, m1_ahead, p1_below, m2_alone, m2_ahead, m3_alone, s1_same, p2_near, m3_far, state_reason}
 use Rattle.states.specs.Ports.{ebest_of, answers_from, answers_of, decision_of}

@@ -7,7 +7,6 @@ use Rattle.std.proofs.Math.Option.{Option, none, some}
 use Rattle.compare.specs.declared.InternalDefaultDS.{InternalDefaultDS}
 use Rattle.choice.specs.declared.BestAnnounceMessage.{BestAnnounceMessage}
 use Rattle.choice.specs.Choice.{All, AllOf}
-use Rattle.choice.specs.Candidate.{winner}
 use Rattle.decision.specs.declared.RecommendedState.{RecommendedState}
 use Rattle.decision.specs.declared.RecommendedState.TheVariants.{Stay, M1, M2, M3, P1, P2, S1}
 use Rattle.decision.specs.State.{low}

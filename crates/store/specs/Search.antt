@@ -1,6 +1,6 @@
 -- The searches for a clock among the acceptable ones, and for a master of a port.
 -- Assumes nothing.
-use Rattle.std.specs.Prelude.{ℕ, ◌+◌, ◌≤◌, Bool, ◌||◌, List, ◌≡◌, ltb, eqb, get_or}
+use Rattle.std.specs.Prelude.{ℕ, ◌+◌, ◌≤◌, Bool, ◌||◌, List, ltb, eqb, get_or}
 use Rattle.header.specs.declared.PortIdentity.{PortIdentity}
 use Rattle.same.specs.Same.{same_port}
 use Rattle.slot.specs.Blocks.{block}

@@ -2,7 +2,7 @@
 -- Assumes nothing.
 use Rattle.std.specs.Prelude.{ℕ, ◌%◌, ◌≤◌, ◌<◌, ◌≡◌}
 use mathlib.Core.List.{List, [], ◌∷◌}
-use Rattle.std.proofs.Math.ListN.{length, take}
+use Rattle.std.proofs.Math.ListN.{length}
 use Rattle.tlv.specs.Tlv.{Tlv}
 use Rattle.tlv_builder.specs.Builder.{list_bytes}
 

@@ -6,10 +6,9 @@ use mathlib.Core.List.{List}
 use native.Mathlib.Omega.{arith}
 use lib.ListN.{length, take, drop, length-drop}
 use lib.Seq.{take_all}
-use borrow.Author.Rules.{rules}
 use Rattle.tlv.specs.declared.TlvRead.{TlvRead}
 use Rattle.tlv.specs.declared.TlvCursor.{TlvCursor}
-use Rattle.tlv.specs.declared.TlvRead.TheVariants.{End, Refused, Entry}
+use Rattle.tlv.specs.declared.TlvRead.TheVariants.{End, Entry}
 use Rattle.tlv.specs.Tlv.{entry_at, check_read, list_check}
 use Rattle.tlv.proofs.Laws.{entry_read, unrolled}
 use Rattle.tlv.proofs.list_check.Goals as goal

@@ -1,6 +1,6 @@
 -- `wire::put_bytes` meets its contract: what was copied into the part from `at` on is put into the whole.
 -- Assumes nothing.
-use Rattle.std.proofs.Common.{◌≡◌, ◌+◌, ◌-◌, ◌++◌, length, take, drop, sym, ap, ◌∙◌, arith, append_assoc, drop-drop}
+use Rattle.std.proofs.Common.{◌≡◌, ◌+◌, ◌-◌, length, arith, append_assoc, drop-drop}
 use Rattle.wire.specs.Be.{put}
 use Rattle.wire.proofs.put_bytes.Goals as goal
 

@@ -1,6 +1,5 @@
 -- `message_type::MessageType::try_from` meets its contract: an arm of one number computes, and what is left is the number of no type.
 -- Assumes nothing.
-use borrow.Author.Tests.{ne_eqb}
 use Rattle.std.proofs.Common.{arith}
 use Rattle.message_type.specs.Types.{type_of}
 use Rattle.message_type.proofs.MessageType.try_from.Goals as goal
