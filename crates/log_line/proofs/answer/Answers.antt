@@ -1,7 +1,7 @@
 -- `log_line::answer` meets its contract, way by way. Assumes nothing.
 use mathlib.Core.Path.{refl}
 use Rattle.log_answer.specs.Steps.{answers_by, shapeless_told}
-use Rattle.log_asked.specs.Steps.{empty-line, kind_0, before-setup, kinds}
+use Rattle.log_asked.proofs.Steps.{empty-line, kind_0, before-setup, kinds}
 use Rattle.log_line.proofs.answer.Goals as goal
 
 pub returns-then-line-eq0 : goal.returns-then-line-eq0

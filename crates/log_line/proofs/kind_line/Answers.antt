@@ -1,7 +1,7 @@
 -- `log_line::kind_line` meets its contract, kind by kind. Assumes nothing.
 use mathlib.Core.Path.{refl}
 use Rattle.log_answer.specs.Steps.{answers_by, shapeless_told}
-use Rattle.log_asked.specs.Steps.{kind_1, kind_2, kind_3, kind_other}
+use Rattle.log_asked.proofs.Steps.{kind_1, kind_2, kind_3, kind_other}
 use Rattle.log_line.proofs.kind_line.Goals as goal
 
 pub returns-then-kind-eq1 : goal.returns-then-kind-eq1

@@ -1,5 +1,5 @@
 -- `log_line::line_checked` meets its contract. Assumes nothing.
-use Rattle.log_asked.specs.Steps.{no_room, room}
+use Rattle.log_asked.proofs.Steps.{no_room, room}
 use Rattle.log_line.proofs.line_checked.Goals as goal
 
 pub returns-then-out-lt-ANSWER_BYTES : goal.returns-then-out-lt-ANSWER_BYTES

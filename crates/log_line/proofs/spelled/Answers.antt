@@ -4,10 +4,10 @@ use native.Mathlib.Omega.{arith}
 use lib.ListN.{take}
 use lib.Seq.{length-take-le}
 use Rattle.hex_line.specs.Hex.{decoded_of}
-use Rattle.hex_line.specs.HexLaws.{decoded_fits}
+use Rattle.hex_line.proofs.HexLaws.{decoded_fits}
 use Rattle.log_asked.specs.Line.{asked_of}
 use Rattle.log_answer.specs.Steps.{answers_by, shapeless_told}
-use Rattle.log_asked.specs.Steps.{bad-asked, good_asked, good_bytes}
+use Rattle.log_asked.proofs.Steps.{bad-asked, good_asked, good_bytes}
 use Rattle.log_line.proofs.spelled.Goals as goal
 
 pub slice_bounds-answer-end : goal.slice_bounds-answer-end

@@ -1,5 +1,5 @@
 -- `log_line::too_long` meets its contract. Assumes nothing.
-use Rattle.log_asked.specs.Steps.{none-room, none_told}
+use Rattle.log_asked.proofs.Steps.{none-room, none_told}
 use Rattle.log_line.proofs.too_long.Goals as goal
 
 pub returns-then-out-lt-ANSWER_BYTES : goal.returns-then-out-lt-ANSWER_BYTES
