@@ -3,7 +3,7 @@
 // Standard output, as the calls that write name it.
 const STDOUT_FILENO: i32 = 1;
 
-#[derive(Drop)]
+#[derive(Clone, Copy)]
 pub struct Tally {
     pub cases: u64,
     pub wrong: u64,

@@ -1,6 +1,6 @@
 -- `log_piece::last_answer` meets its contract, by what stands open. Assumes nothing.
 use mathlib.Core.Path.{sym, ◌∙◌}
-use Rattle.log_step.specs.Steps.{line-rest, long_rest, none_rest}
+use Rattle.log_step.proofs.Steps.{line-rest, long_rest, none_rest}
 use Rattle.log_piece.proofs.last_answer.Goals as goal
 
 pub kept_line-requires : goal.kept_line-requires

@@ -2,7 +2,7 @@
 use native.Mathlib.Omega.{arith}
 use lib.ListN.{length}
 use Rattle.lines.specs.Lines.{next_line}
-use Rattle.log_step.specs.Steps.{next-stands, line_step, long-step, taken_step}
+use Rattle.log_step.proofs.Steps.{next-stands, line_step, long-step, taken_step}
 use Rattle.log_piece.proofs.next_answer.Goals as goal
 
 pub kept_line-requires : goal.kept_line-requires
