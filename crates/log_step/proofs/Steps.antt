@@ -18,7 +18,7 @@ use Rattle.log_answer.specs.Answer.{Asked, Known, state_byte, told_of, text_of, 
 use Rattle.log_asked.specs.Line.{asked, line_answered, line_store, line_out, none_answered, none_out}
 use Rattle.log_answer.specs.Steps.{length-text}
 use Rattle.log_decision.specs.Steps.{few-ports}
-use Rattle.log_asked.proofs.Kinds.{line_known}
+use Rattle.log_asked.proofs.AskedKinds.{line_known}
 use Rattle.log_step.specs.declared.Step.{Step}
 use Rattle.log_step.specs.declared.Step.TheVariants as S
 use Rattle.log_step.specs.declared.Rest.{Rest}

@@ -21,7 +21,7 @@ use Rattle.log_answer.specs.declared.Setup.{Setup}
 use Rattle.log_answer.specs.Answer.{Asked, state_byte, told_of, text_of, setup_of, store_of}
 use Rattle.log_setup.specs.Start.{intervals_at, start_at, setup_at}
 use Rattle.log_asked.specs.Line.{asked}
-use Rattle.log_asked.proofs.Kinds.{Kind, nothing, starting, calling, kinds}
+use Rattle.log_asked.proofs.AskedKinds.{Kind, nothing, starting, calling, kinds}
 use Rattle.logs.specs.Log.{event_on, told_on, setup_on, book_on, answers_of}
 
 -- the lines, answered over a store
