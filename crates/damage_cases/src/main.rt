@@ -72,7 +72,7 @@ fn every_call(store: &mut [u64], before: &[u64], sound: bool) -> bool {
 }
 
 // The tallies of the books that are still sound, and of those that are not.
-#[derive(Clone, Copy)]
+#[derive(Drop)]
 struct Tallies {
     sound: Tally,
     unsound: Tally,
@@ -114,10 +114,9 @@ fn every(t: Tallies, store: &mut [u64], book: &mut [u64], at: usize) -> Tallies 
 }
 
 fn all(store: &mut [u64], book: &mut [u64]) -> Tallies {
-    let none = Tally { cases: 0, wrong: 0 };
     let mut all = Tallies {
-        sound: none,
-        unsound: none,
+        sound: Tally { cases: 0, wrong: 0 },
+        unsound: Tally { cases: 0, wrong: 0 },
     };
     full::fill(book);
     for at in 0..words::BOOK {

@@ -57,22 +57,24 @@ module _ (n size given : ℕ) where
   unfolding refusal_of
   passed-back e = by-type (type_of n) refl e
     where
-      by_tests : (t : MessageType) → type_of n ≡ Known t → (a b c d : Bool) → leb size given ≡ b → eqb (type_number t) 11 ≡ c → leb 64 size ≡ d
-          → ◌≡◌ {A = ℕ} (cond a (cond b (cond c (cond d 0 1) 5) 1) 3) 0 → Passed
-      by_tests t q true true true true eb ec ed e =
+      by_tests : (t : MessageType) → type_of n ≡ Known t → (a b c d : Bool) → leb 34 size ≡ a → leb size given ≡ b → eqb (type_number t) 11 ≡ c → leb 64 size ≡ d
+          → refusal_of_type (Known t) size given ≡ 0 → Passed
+      by_tests t q true true true true ea eb ec ed e =
           record {
             type = ap type_of (sym (number-back n t q) ∙ eqb-true (type_number t) 11 ec) ∙ type-back Announce;
             long = leb-true 64 size ed;
             there = leb-true size given eb;
           }
-      by_tests t q true true true false eb ec ed e = absurd (omega arith)
-      by_tests t q true true false d eb ec ed e = absurd (omega arith)
-      by_tests t q true false c d eb ec ed e = absurd (omega arith)
-      by_tests t q false b c d eb ec ed e = absurd (omega arith)
+      by_tests t q true true true false ea eb ec ed e = absurd (omega (arith, simp (ea, eb, ec, ed) at e))
+      by_tests t q true true false d ea eb ec ed e = absurd (omega (arith, simp (ea, eb, ec) at e))
+      by_tests t q true false true d ea eb ec ed e = absurd (omega (arith, simp (ea, eb, ec) at e))
+      by_tests t q true false false d ea eb ec ed e = absurd (omega (arith, simp (ea, eb, ec) at e))
+      by_tests t q false b true d ea eb ec ed e = absurd (omega (arith, simp (ea, ec) at e))
+      by_tests t q false b false d ea eb ec ed e = absurd (omega (arith, simp (ea, ec) at e))
 
       by-type : (r : TypeRead) → type_of n ≡ r → refusal_of_type r size given ≡ 0 → Passed
       by-type Reserved q e = absurd (omega arith)
-      by-type (Known t) q e = by_tests t q (leb 34 size) (leb size given) (eqb (type_number t) 11) (leb 64 size) refl refl refl e
+      by-type (Known t) q e = by_tests t q (leb 34 size) (leb size given) (eqb (type_number t) 11) (leb 64 size) refl refl refl refl e
 
 -- ---- a frame
 

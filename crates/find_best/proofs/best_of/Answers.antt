@@ -12,4 +12,4 @@ no_more n xs l h = take_all 96 xs (omega (arith, l)) ∙ sym (take_all n xs (ome
 pub returns : goal.returns
 returns c =
     c.first_of-2.ensures
-    ∙ ap (λ (xs : List Candidate). best_of (winner itself xs)) (no_more _ _ (omega arith) c.if-n-lt96.false)
+    ∙ ap (λ (xs : List Candidate). best_of (winner itself xs)) (no_more c.args.n c.args.list (omega arith) (omega arith))

@@ -1,0 +1,19 @@
+-- `answers::tell` meets its contract: by what was told.
+-- Assumes nothing.
+use mathlib.Core.Path.{sym, ap, ◌∙◌}
+use Rattle.wire.specs.Be.{put}
+use Rattle.wire.specs.BeLaws.{put-nil}
+use Rattle.answers.specs.Answers.{answer_number, answer_words}
+use Rattle.answers.proofs.tell.Goals as goal
+
+pub returns-in-Refused : goal.returns-in-Refused
+returns-in-Refused c =
+    let a = c.args in
+    let e = sym c.in-Refused.is in
+    (ap answer_number e, sym (put-nil a.s.now 0) ∙ ap (λ t. put a.s.now 0 (answer_words t)) e)
+
+pub returns-in-Done : goal.returns-in-Done
+returns-in-Done c =
+    let a = c.args in
+    let e = sym c.in-Done.is in
+    (ap answer_number e, c.put_tallies.ensures ∙ ap (λ t. put a.s.now 0 (answer_words t)) e)

@@ -1,0 +1,19 @@
+-- `answers::tell_frame` meets its contract: by what was told.
+-- Assumes nothing.
+use mathlib.Core.Path.{sym, ap, ◌∙◌}
+use Rattle.wire.specs.Be.{put}
+use Rattle.wire.specs.BeLaws.{put-nil}
+use Rattle.answers.specs.Answers.{frame_number, frame_words}
+use Rattle.answers.proofs.tell_frame.Goals as goal
+
+pub returns-in-Refused : goal.returns-in-Refused
+returns-in-Refused c =
+    let a = c.args in
+    let e = sym c.in-Refused.is in
+    (ap frame_number e, sym (put-nil a.s.now 0) ∙ ap (λ t. put a.s.now 0 (frame_words t)) e)
+
+pub returns-in-Done : goal.returns-in-Done
+returns-in-Done c =
+    let a = c.args in
+    let e = sym c.in-Done.is in
+    (ap frame_number e, c.put_message.ensures ∙ ap (λ t. put a.s.now 0 (frame_words t)) e)
