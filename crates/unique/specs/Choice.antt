@@ -2,7 +2,7 @@
 -- Assumes nothing.
 use Rattle.std.specs.Prelude.{◌≡◌, refl, List}
 use Rattle.std.proofs.Common.{ap}
-use Rattle.std.proofs.Math.Option.{some, none-ne-some, some-injective}
+use Rattle.std.proofs.Math.Option.{none-ne-some, some-injective}
 use Rattle.compare.proofs.ComparisonDataset.from_announce_message.Reads as from-announce-message
 use Rattle.compare.proofs.ComparisonDataset.from_own_data.Reads as from-own-data
 use Rattle.compare.proofs.ComparisonDataset.compare.Reads as compare
