@@ -14,7 +14,7 @@ ghost use Rattle.store.specs.Layout.{
   message_at,
   reads,
 };
-ghost use Rattle.book.specs.Rules.{rule_at, master_sound, placed, port_sound, sound_words, store_refusal, };
+ghost use Rattle.book.specs.Rules.{rule_at, master_sound, placed, port_sound, sound_words, store_refusal};
 
 pub use store::{
     HEAD_WORDS, LISTED, MASTER_WORDS, MESSAGES, PORT_WORDS, PORTS, STORE_WORDS, acceptable, age_at,

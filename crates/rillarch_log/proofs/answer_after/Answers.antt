@@ -15,6 +15,9 @@ returns c =
     let start = c in
     let a = start.args in
     let l = a.out.now in
-    record { step_within = subst (λ (room : ℕ). StepWithin room (length a.piece.now) a.at f.result)
+    record {
+      step_within = subst (λ (room : ℕ). StepWithin room (length a.piece.now) a.at f.result)
           (length-take-le (length l - a.used) (drop a.used l) (omega (arith, length-drop a.used l)))
-          f.ensures.within; step_known = step-known (next_line a.line.now a.count a.piece.now a.at) a.setup a.store.now (take (length l - a.used) (drop a.used l)) _ _ start.requires.1 f.ensures.value f.ensures.store_after }
+          f.ensures.within;
+      step_known = step-known (next_line a.line.now a.count a.piece.now a.at) a.setup a.store.now (take (length l - a.used) (drop a.used l)) _ _ start.requires.1 f.ensures.value f.ensures.store_after;
+    }
