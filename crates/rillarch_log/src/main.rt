@@ -20,7 +20,7 @@ const STDERR_FILENO: i32 = 2;
 
 // Where the program stands: what is set up, how many bytes of the unfinished line are kept, how many of the output wait to be written,
 // and whether all writes were done.
-#[derive(Drop)]
+#[derive(Clone, Copy)]
 struct Place {
     setup: Setup,
     count: usize,
@@ -29,7 +29,7 @@ struct Place {
 }
 
 // How many bytes of the output wait, and whether the write before them was done.
-#[derive(Drop)]
+#[derive(Clone, Copy)]
 struct Room {
     used: usize,
     written: bool,

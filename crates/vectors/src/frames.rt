@@ -32,7 +32,7 @@ pub const LONG: [u8; 70] = *b"\
     \x00\x08\x00\x02\xA5\x5A";
 
 // What a frame holds.
-#[derive(Drop)]
+#[derive(Clone, Copy)]
 pub struct Message {
     pub kind: MessageType,
     pub length: u16,
