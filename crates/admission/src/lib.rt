@@ -1,14 +1,14 @@
 // A message taken into the book, after register_announce_message of bmc/foreign_master.rs: the words then.
 #![tactic(auto)]
 
-ghost use Rattle.std.specs.Prelude.{◌≡◌, true, ◌<◌, ◌≤◌, length, get_or};
+ghost use Rattle.std.specs.Prelude.{◌≡◌, ◌<◌, length, get_or};
 ghost use Rattle.slot.specs.Blocks.{block};
 ghost use Rattle.slot.specs.Slot.{Narrow};
 ghost use Rattle.history.specs.Rules.{masters_max};
 ghost use Rattle.history.specs.Port.{sender};
-ghost use Rattle.book.specs.Layout.{master_words, port_words, store_words, port_at, reads};
+ghost use Rattle.book.specs.Layout.{master_words, port_words, port_at, reads, WholePort};
 ghost use Rattle.store.specs.Search.{place};
-ghost use Rattle.book.specs.Rules.{sound_words};
+ghost use Rattle.book.specs.Rules.{SoundStore};
 ghost use Rattle.admission.specs.Admit.{puts_out, appended, begun, evicted_at, registered, evicted_in, registered_in};
 
 use header::PortIdentity;
@@ -45,7 +45,7 @@ fn begin(master: &mut [u64], source: PortIdentity, m: ForeignAnnounceMessage)
 
 // The message at the end of its master's list, or in a new master at the end.
 fn register_at(port: &mut [u64], m: ForeignAnnounceMessage) -> u64
-    requires port_len { (length port.old ≡ port_words) × (get_or port.old 1 0 ≤ masters_max) × Narrow m }
+    requires port_len { WholePort port.old × Narrow m }
     requires m_bound { place port.old (sender reads m) < masters_max }
     ensures { (result ≡ evicted_at port.old m) × (port.new ≡ registered port.old m) }
 {
@@ -64,7 +64,7 @@ fn register_at(port: &mut [u64], m: ForeignAnnounceMessage) -> u64
 
 // The message taken into the book, for a port that counts from 0. How many were put out.
 pub fn register_in(store: &mut [u64], q: usize, m: ForeignAnnounceMessage) -> u64
-    requires store_words_in_bounds { (store_words ≤ length store.old) × (sound_words store.old ≡ true) × (q < get_or store.old 0 0) }
+    requires store_words_in_bounds { SoundStore store.old × (q < get_or store.old 0 0) }
     requires m_bound { (place (block store.old (port_at q) port_words) (sender reads m) < masters_max) × Narrow m }
     ensures { (result ≡ evicted_in store.old q m) × (store.new ≡ registered_in store.old q m) }
 {

@@ -1,29 +1,13 @@
 // Ageing of a book: every message older, the stale ones let go and counted, empty masters squeezed out.
 #![tactic(auto)]
 
-ghost use Rattle.std.specs.Prelude.{◌≡◌, ◌+◌, ◌*◌, ◌^◌, ◌<◌, ◌≤◌, true, length, slice_index};
+ghost use Rattle.std.specs.Prelude.{◌≡◌, ◌+◌, ◌*◌, ◌^◌, ◌<◌, ◌≤◌, length, slice_index};
 ghost use Rattle.wire.specs.Be.{put};
 ghost use Rattle.slot.specs.Blocks.{block};
 ghost use Rattle.history.specs.Rules.{masters_max, messages_max};
-ghost use Rattle.book.specs.Layout.{master_words, port_words, store_words, master_at};
-ghost use Rattle.book.specs.Rules.{sound_words};
-ghost use Rattle.ageing.specs.Age.{
-  older_at,
-  older_to,
-  stale,
-  gone,
-  aged_master,
-  RingsFit,
-  gone_to,
-  aged_to,
-  Packing,
-  pack_step,
-  packed,
-  gone_port,
-  aged_port,
-  aged_out,
-  aged_store,
-};
+ghost use Rattle.book.specs.Layout.{master_words, port_words, master_at};
+ghost use Rattle.book.specs.Rules.{SoundStore};
+ghost use Rattle.ageing.specs.Age.{older_at, older_to, stale, gone, aged_master, RingsFit, gone_to, aged_to, pack_step, packed, gone_port, aged_port, aged_out, aged_store};
 
 // Message k older by `step`.
 fn age_message(master: &mut [u64], k: usize, step: u64)
@@ -41,10 +25,8 @@ fn age_messages(master: &mut [u64], step: u64)
     ensures { master.new ≡ older_to step (slice_index master.old 3) master.old }
 {
     let count = master[3] as usize;
-    let mut k = 0;
-    while k < count {
+    for k in 0..count {
         age_message(master, k, step);
-        k += 1;
     }
 }
 
@@ -54,12 +36,10 @@ fn count_stale(master: &[u64], limit: u64) -> usize
     ensures { result ≡ stale limit master.now }
 {
     let count = master[3] as usize;
-    let mut k = 0;
-    while k < count {
+    for k in 0..count {
         if book::age_at(master, k) < limit {
             return k;
         }
-        k += 1;
     }
     count
 }
@@ -85,12 +65,9 @@ fn age_masters(port: &mut [u64], step: u64, limit: u64) -> u64
 {
     let count = port[1] as usize;
     let mut out = 0;
-    let mut i = 0;
-    while i < count {
+    for i in 0..count {
         let at = 4 + i * book::MASTER_WORDS;
-        let here = age_master(&mut port[at..at + book::MASTER_WORDS], step, limit);
-        out += here;
-        i += 1;
+        out += age_master(&mut port[at..at + book::MASTER_WORDS], step, limit);
     }
     out
 }
@@ -102,11 +79,7 @@ fn move_master(port: &mut [u64], to: usize, from: usize)
 {
     let target = 4 + to * book::MASTER_WORDS;
     let source = 4 + from * book::MASTER_WORDS;
-    let mut w = 0;
-    while w < book::MASTER_WORDS {
-        port[target + w] = port[source + w];
-        w += 1;
-    }
+    port.copy_within(source..source + book::MASTER_WORDS, target);
 }
 
 // Master i to the place `next`, if it has messages; and the next place.
@@ -120,7 +93,6 @@ fn pack_one(port: &mut [u64], i: usize, next: usize) -> usize
     }
     if next < i {
         move_master(port, next, i);
-        return next + 1;
     }
     next + 1
 }
@@ -131,11 +103,9 @@ fn pack_masters(port: &mut [u64])
     ensures { port.new ≡ packed port.old }
 {
     let count = port[1] as usize;
-    let mut i = 0;
     let mut next = 0;
-    while i < count {
+    for i in 0..count {
         next = pack_one(port, i, next);
-        i += 1;
     }
     port[1] = next as u64;
 }
@@ -153,18 +123,15 @@ fn age_port(port: &mut [u64], step: u64) -> u64
 
 // Every message of every port older by `step`.
 pub fn age_ports(store: &mut [u64], step: u64) -> u64
-    requires { (store_words ≤ length store.old) × (sound_words store.old ≡ true) }
+    requires { SoundStore store.old }
     ensures value { (result ≡ aged_out step store.old) × (store.new ≡ aged_store step store.old) }
     ensures upper_bound { result ≤ 8 * (8 * 12) }
 {
     let count = store[0] as usize;
     let mut all = 0;
-    let mut q = 0;
-    while q < count {
+    for q in 0..count {
         let at = book::HEAD_WORDS + q * book::PORT_WORDS;
-        let here = age_port(&mut store[at..at + book::PORT_WORDS], step);
-        all += here;
-        q += 1;
+        all += age_port(&mut store[at..at + book::PORT_WORDS], step);
     }
     all
 }

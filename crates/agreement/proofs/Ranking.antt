@@ -7,8 +7,8 @@ use Rattle.std.proofs.Math.Path.{ap}
 use Rattle.std.proofs.lemmas.Bool.{false≢true}
 use Rattle.std.proofs.Math.Decide.{ℕ_discrete}
 use Rattle.compare.specs.declared.ComparisonDataset.{ComparisonDataset}
-use Rattle.order.specs.declared.Ordering.{Ordering}
-use Rattle.order.specs.declared.Ordering.TheVariants.{Less, Equal, Greater}
+use Rattle.std.specs.declared.cmp.Ordering.{Ordering}
+use Rattle.std.specs.declared.cmp.Ordering.TheVariants.{Less, Equal, Greater}
 use Rattle.order.specs.Order.{cmp, then_by, lex, flip, is_less, is_greater}
 use Rattle.compare.specs.Dataset.{by_quality, by_topology, nearer_by, farther_by, quality_row, topology_row, figure34, figure35, as_ordering}
 use Rattle.order.specs.Rows.{Stand, Two, lt, eq, gt, two, cmp_less, cmp_greater, cmp_equal, cmp-flip, stand_equal, stand-lex, stand-refl, stand, stand-flip, stand-trans, lex-flip, then_by_assoc, then_by_equal}

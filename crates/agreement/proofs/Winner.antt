@@ -1,36 +1,35 @@
 -- Demand 3 of the choice: with and without the agreement.
 -- Assumes nothing.
-use Rattle.std.specs.Prelude.{◌≡◌, Bool}
+use Rattle.std.specs.Prelude.{◌≡◌, Bool, Some, option_map}
 use Rattle.std.proofs.Math.Path.{refl, ap, subst}
 use Rattle.std.proofs.Common.{sym, ◌∙◌}
 use Rattle.std.proofs.Math.Bool.{false}
 use mathlib.Core.List.Memᴰ
 use mathlib.Core.List.{List, [], ◌∷◌, Memᴰ, map}
-use Rattle.std.proofs.Math.Option.{some}
-use Rattle.order.specs.declared.Ordering.{Ordering}
-use Rattle.order.specs.declared.Ordering.TheVariants.{Less, Equal, Greater}
+use Rattle.std.specs.declared.cmp.Ordering.{Ordering}
+use Rattle.std.specs.declared.cmp.Ordering.TheVariants.{Less, Equal, Greater}
 use Rattle.order.specs.Order.{cmp, then_by, is_greater}
 use Rattle.compare.specs.Dataset.{as_ordering, compare_of, ranks_above}
 use Rattle.choice.specs.declared.Candidate.{Candidate}
 use Rattle.choice.specs.Choice.{joined, All, AllOf}
 use Rattle.choice.specs.Candidate.{dataset_of, ranking, stays, itself, stays_by, winner, erbests, ebest, single}
 use Rattle.agreement.specs.Agreement.{Agreeing}
-use Rattle.choice.proofs.Chosen.{all_in, all-at, weak_by, choose-once, choose-agree, choose_has, choose-top, choose-map, map_option, Last, choose-last}
+use Rattle.choice.proofs.Chosen.{all_in, all-at, weak_by, choose-once, choose-agree, choose_has, choose-top, choose-map, Last, choose-last}
 use Rattle.agreement.proofs.Ranking.{row_above, row_weak, stays-row}
 
 module _ {A : Type 0} (shown : A → Candidate) where
   -- The winner is one of the candidates, with or without the agreement.
-  pub winner_in : (xs : List A) (w : A) → winner shown xs ≡ some w → Memᴰ w xs
+  pub winner_in : (xs : List A) (w : A) → winner shown xs ≡ Some w → Memᴰ w xs
   unfolding winner
   winner_in xs w e = subst (AllOf (λ x. Memᴰ x xs)) e (choose_has (λ x. Memᴰ x xs) (stays_by shown) xs (all_in xs (λ x m. m)))
 
   -- It is above each candidate that comes after it: of equals the last is chosen.
-  pub winner-last : (xs : List A) (w : A) → winner shown xs ≡ some w → Last (stays_by shown) xs w
+  pub winner-last : (xs : List A) (w : A) → winner shown xs ≡ Some w → Last (stays_by shown) xs w
   unfolding winner
   winner-last xs w e = subst (AllOf (Last (stays_by shown) xs)) e (choose-last (stays_by shown) xs)
 
   -- Choosing whole records is choosing what they show.
-  pub winner-shown : (xs : List A) → winner itself (map shown xs) ≡ map_option shown (winner shown xs)
+  pub winner-shown : (xs : List A) → winner itself (map shown xs) ≡ option_map shown (winner shown xs)
   unfolding winner
   winner-shown xs = choose-map shown stays xs
 
@@ -42,7 +41,7 @@ module _ {A : Type 0} {shown : A → Candidate} {xs : List A} (a : Agreeing show
   stays-above x y m n = stays-row (shown x) (shown y) (a.foreign x m) (a.foreign y n) (a.agree x y m n)
 
   -- No candidate would stay before the winner,
-  pub none_stays : (w : A) → winner shown xs ≡ some w → (x : A) → Memᴰ x xs → stays_by shown x w ≡ false
+  pub none_stays : (w : A) → winner shown xs ≡ Some w → (x : A) → Memᴰ x xs → stays_by shown x w ≡ false
   unfolding winner
   none_stays w e x m =
       stays-above x w m (winner_in shown xs w e)
@@ -51,7 +50,7 @@ module _ {A : Type 0} {shown : A → Candidate} {xs : List A} (a : Agreeing show
       m
 
   -- and so none ranks above it.
-  pub none_above : (w : A) → winner shown xs ≡ some w → (x : A) → Memᴰ x xs → ranks_above (compare_of (dataset_of (shown x)) (dataset_of (shown w))) ≡ false
+  pub none_above : (w : A) → winner shown xs ≡ Some w → (x : A) → Memᴰ x xs → ranks_above (compare_of (dataset_of (shown x)) (dataset_of (shown w))) ≡ false
   unfolding stays ranking
   none_above w e x m = first (as_ordering (compare_of (dataset_of (shown x)) (dataset_of (shown w)))) (cmp (shown w).age (shown x).age) (none_stays w e x m)
     where
@@ -74,7 +73,7 @@ module _ {A : Type 0} (shown : A → Candidate) (ports : List (List A)) (a : Agr
 
   -- No candidate of a port ranks above its Erbest,
   pub erbest-none-above :
-      (xs : List A) → Memᴰ xs ports → (w : A) → winner shown xs ≡ some w → (x : A) → Memᴰ x xs
+      (xs : List A) → Memᴰ xs ports → (w : A) → winner shown xs ≡ Some w → (x : A) → Memᴰ x xs
       → ranks_above (compare_of (dataset_of (shown x)) (dataset_of (shown w))) ≡ false
   erbest-none-above xs n =
       none_above
@@ -84,11 +83,11 @@ module _ {A : Type 0} (shown : A → Candidate) (ports : List (List A)) (a : Agr
       })
 
   -- and none of any port above Ebest.
-  pub ebest-none-above : (w : A) → ebest shown ports ≡ some w → (x : A) → Memᴰ x (joined ports) → ranks_above (compare_of (dataset_of (shown x)) (dataset_of (shown w))) ≡ false
+  pub ebest-none-above : (w : A) → ebest shown ports ≡ Some w → (x : A) → Memᴰ x (joined ports) → ranks_above (compare_of (dataset_of (shown x)) (dataset_of (shown w))) ≡ false
   unfolding single
   ebest-none-above w e x m = none_above a w (choosing_once ∙ e) x m
 
   -- Of the calls: the single choice over the candidates of all ports answers the candidate of Ebest.
-  pub once-shown : winner itself (map shown (joined ports)) ≡ map_option shown (ebest shown ports)
+  pub once-shown : winner itself (map shown (joined ports)) ≡ option_map shown (ebest shown ports)
   unfolding single
-  once-shown = winner-shown shown (joined ports) ∙ ap (map_option shown) choosing_once
+  once-shown = winner-shown shown (joined ports) ∙ ap (option_map shown) choosing_once

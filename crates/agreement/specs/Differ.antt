@@ -1,8 +1,7 @@
 -- Without the agreement, choosing by ports and choosing at once can differ: paper 01's a, b, c.
 -- Assumes nothing.
-use Rattle.std.specs.Prelude.{◌≡◌, refl, true, false, List, [], ◌∷◌, ℕ}
+use Rattle.std.specs.Prelude.{◌≡◌, refl, true, false, List, [], ◌∷◌, ℕ, Some}
 use Rattle.std.proofs.Common.{sym, ap, ◌∙◌, arith}
-use Rattle.std.proofs.Math.Option.{some}
 use Rattle.verdict.specs.declared.DatasetOrdering.{DatasetOrdering}
 use Rattle.verdict.specs.declared.DatasetOrdering.TheVariants.{Better}
 use Rattle.order.specs.Order.{cmp, then_by, is_greater}
@@ -29,11 +28,11 @@ abbrev pub two_ports : Candidate → Candidate → Candidate → List (List Cand
 two_ports a b c = (a ∷ []) ∷ (c ∷ b ∷ []) ∷ []
 
 module _ (a b c : Candidate) (s : Circular (dataset_of a) (dataset_of b) (dataset_of c)) where
-  pub by-ports-a : ebest itself (two_ports a b c) ≡ some a
+  pub by-ports-a : ebest itself (two_ports a b c) ≡ Some a
   unfolding ebest erbests winner choose from
   by-ports-a = rw (stays_worse c b (circle _ _ _ s).2, stays_better a b (circle _ _ _ s).1)
 
-  pub at-once-b : single itself (two_ports a b c) ≡ some b
+  pub at-once-b : single itself (two_ports a b c) ≡ Some b
   unfolding single winner choose from
   at-once-b = rw (stays_worse a c (circle _ _ _ s).0, stays_worse c b (circle _ _ _ s).2)
 

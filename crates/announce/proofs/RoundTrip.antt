@@ -1,6 +1,6 @@
 -- The content as a codec, at any place: reading what was written gives the same values.
 -- Assumes nothing.
-use Rattle.std.specs.Prelude.{ℕ, ◌+◌, ◌^◌, ◌≤◌, ◌<◌, ◌≡◌, refl, List, [], ◌∷◌, ℤ, length, get_or, drop}
+use Rattle.std.specs.Prelude.{ℕ, ◌+◌, ◌^◌, ◌≤◌, ◌<◌, ◌≡◌, refl, List, [], ◌∷◌, ℤ, length, get_or, drop, Ok}
 use Rattle.std.proofs.Common.{zero-le, sym, ap, ap₂, ◌∙◌, add_assoc, add-zero, arith, leb-true, SFits}
 use Rattle.std.specs.Int.{w16}
 use mir.ValLaws.{of_z_fits, to_z-of_z, to_z-Fits}
@@ -12,7 +12,6 @@ use Rattle.wire.proofs.LayoutLaws.{length-bytes_of_all, fields-put, fields-befor
 use Rattle.wire.specs.Write.{done}
 use Rattle.header.specs.declared.Header.{Header}
 use Rattle.announce.specs.declared.AnnounceMessage.{AnnounceMessage}
-use Rattle.announce.specs.declared.AnnounceRead.TheVariants.{Done}
 use Rattle.announce.specs.Wire.{announce_with, announce_of, content_at, read_content, content_widths, reserved_of, content_values, content_bytes, with_content, fits_of, write_answer, write_exit}
 use Rattle.announce.proofs.Laws.{read_0}
 
@@ -92,12 +91,12 @@ unfolding with_content content_widths
 length-with_content s at a le = length-put s at (content_bytes (reserved_of s at) a) (rw length-bytes_of_all le)
 
 -- of the calls: where the writer answers 0, the reader gives back what was written
-pub calls-trip : (s : List ℕ) (a : AnnounceMessage) → Typed a → Bytes s → write_answer s a ≡ 0 → read_content a.header (write_exit s a) ≡ Done a
+pub calls-trip : (s : List ℕ) (a : AnnounceMessage) → Typed a → Bytes s → write_answer s a ≡ 0 → read_content a.header (write_exit s a) ≡ Ok a
 calls-trip s a ty b e =
     let d = done (fits_of a) 30 s (with_content s 0 a) e in
     let out = with_content s 0 a in
     let room : 30 ≤ length out = omega (arith, length-with_content s 0 a d.room, d.room) in
-    rw d.exit (sym (read_0 a.header out room) ∙ ap Done (content-trip s 0 a (record { seconds = leb-true _ _ d.fit; typed = ty }) b zero-le))
+    rw d.exit (sym (read_0 a.header out room) ∙ ap Ok (content-trip s 0 a (record { seconds = leb-true _ _ d.fit; typed = ty }) b zero-le))
 
 -- ---- what is read
 

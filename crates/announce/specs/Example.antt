@@ -1,15 +1,13 @@
 -- Paper 01's F(n), read by computation.
 -- Assumes nothing.
-use Rattle.std.specs.Prelude.{ℕ, ◌+◌, ◌*◌, ◌/◌, ◌%◌, ◌<◌, ◌≡◌, refl, false, List, [], ◌∷◌, pos, drop}
+use Rattle.std.specs.Prelude.{ℕ, ◌+◌, ◌*◌, ◌/◌, ◌%◌, ◌<◌, ◌≡◌, refl, false, List, [], ◌∷◌, pos, drop, Ok}
 use Rattle.std.proofs.Common.{ap, arith}
 use Rattle.wire.specs.Be.{be_at}
 use Rattle.header.specs.declared.Header.{Header}
-use Rattle.header.specs.declared.HeaderRead.TheVariants as H
 use Rattle.message_type.specs.declared.MessageType.TheVariants.{Announce}
 use Rattle.message_type.specs.Types.{type_of}
 use Rattle.header.specs.Wire.{header_of, header_with, read_header}
 use Rattle.announce.specs.declared.AnnounceMessage.{AnnounceMessage}
-use Rattle.announce.specs.declared.AnnounceRead.TheVariants as A
 use Rattle.announce.specs.Wire.{announce_of, announce_with, read_content}
 
 -- the 64 bytes: an announce of clock 1, port 1, with the sequence n
@@ -59,12 +57,12 @@ message n =
       time_source = 0x20;
     }
 
-pub header_read : (n : ℕ) → n < 65536 → read_header (F n) ≡ H.Done (record { header = header n; message_type = Announce; message_length = 64 })
+pub header_read : (n : ℕ) → n < 65536 → read_header (F n) ≡ Ok (record { header = header n; message_type = Announce; message_length = 64 })
 unfolding F read_header header_of header_with be_at type_of
 header_read n h =
     let e : (0 * 256 + n / 256 % 256) * 256 + n % 256 ≡ n = omega arith in
-    ap (λ (k : ℕ). H.Done (record { header = header k; message_type = Announce; message_length = 64 })) e
+    ap (λ (k : ℕ). Ok (record { header = header k; message_type = Announce; message_length = 64 })) e
 
-pub content-read : (n : ℕ) → read_content (header n) (drop 34 (F n)) ≡ A.Done (message n)
+pub content-read : (n : ℕ) → read_content (header n) (drop 34 (F n)) ≡ Ok (message n)
 unfolding F read_content announce_of announce_with be_at
 content-read n = refl

@@ -1,7 +1,6 @@
 -- The content of an announce message of IEEE 1588-2019, 13.5, as paper 01 lists its 30 bytes: what is read, and what is written.
 -- Assumes nothing.
-use Rattle.std.specs.Prelude.{ℕ, ◌+◌, List, [], ◌∷◌, Bool, cond, leb, ℤ, length}
-use Rattle.std.proofs.Math.Option.{Option, none, some}
+use Rattle.std.specs.Prelude.{ℕ, ◌+◌, List, [], ◌∷◌, Bool, cond, leb, ℤ, length, Result, Ok}
 use Rattle.std.specs.Int.{w16}
 use Rattle.std.proofs.Common.{to_z, of_z}
 use Rattle.wire.specs.Be.{be_at, put}
@@ -9,8 +8,8 @@ use Rattle.wire.specs.Layout.{bytes_of_all}
 use Rattle.wire.specs.Write.{write_number, write_buffer}
 use Rattle.header.specs.declared.Header.{Header}
 use Rattle.announce.specs.declared.AnnounceMessage.{AnnounceMessage}
-use Rattle.announce.specs.declared.AnnounceRead.{AnnounceRead}
-use Rattle.announce.specs.declared.AnnounceRead.TheVariants.{Done, Refused}
+use Rattle.refused.specs.declared.Refusal.{Refusal}
+use Rattle.refused.specs.Refusal.{refused}
 
 -- ---- what is read
 
@@ -41,13 +40,8 @@ content_at h s at =
     (be_at s (at + 16) 2) (be_at s (at + 18) 1) (be_at s (at + 19) 8) (be_at s (at + 27) 2) (be_at s (at + 29) 1)
 
 -- fewer than 30 bytes are refused 1
-unfoldable pub read_content : Header → List ℕ → AnnounceRead
-read_content h s = cond (leb 30 (length s)) (Done (content_at h s 0)) (Refused 1)
-
--- paper 01's number of each answer, 0 for done, and the value that it holds
-abbrev pub answer_of : AnnounceRead → ℕ × Option AnnounceMessage
-answer_of (Done a) = (0, some a)
-answer_of (Refused n) = (n, none)
+unfoldable pub read_content : Header → List ℕ → Result AnnounceMessage Refusal
+read_content h s = cond (leb 30 (length s)) (Ok (content_at h s 0)) (refused 1)
 
 -- ---- what is written
 

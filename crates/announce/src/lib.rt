@@ -5,15 +5,16 @@ ghost use Rattle.std.specs.Prelude.{◌≡◌, ◌+◌, ◌≤◌, length};
 ghost use Rattle.announce.specs.Wire.{announce_of, content_at, read_content};
 
 use header::Header;
+use refused::Refusal;
 
-#[derive(Clone, Copy)]
+#[derive(Clone, Copy, PartialEq, Eq)]
 pub struct WireTimestamp {
     pub seconds: u64,
     pub nanos: u32,
 }
 
 // The accuracy is the byte of the wire, a reserved one too.
-#[derive(Clone, Copy)]
+#[derive(Clone, Copy, PartialEq, Eq)]
 pub struct ClockQuality {
     pub clock_class: u8,
     pub clock_accuracy: u8,
@@ -21,7 +22,7 @@ pub struct ClockQuality {
 }
 
 // The time source is the byte of the wire, a reserved one too.
-#[derive(Clone, Copy)]
+#[derive(Clone, Copy, PartialEq, Eq)]
 pub struct AnnounceMessage {
     pub header: Header,
     pub origin_timestamp: WireTimestamp,
@@ -32,13 +33,6 @@ pub struct AnnounceMessage {
     pub grandmaster_identity: u64,
     pub steps_removed: u16,
     pub time_source: u8,
-}
-
-// What a reader of contents answers: the message, or the number of the refusal.
-#[derive(Clone, Copy)]
-pub enum AnnounceRead {
-    Done(AnnounceMessage),
-    Refused(u8),
 }
 
 // How many bytes the content takes.
@@ -61,21 +55,16 @@ pub fn announce_of(
 ) -> AnnounceMessage
     ensures { result ≡ announce_of header seconds nanos utc_offset priority1 class accuracy variance priority2 grandmaster steps source }
 {
-    let origin = WireTimestamp {
-        seconds: seconds,
-        nanos: nanos,
-    };
-    let quality = ClockQuality {
-        clock_class: class,
-        clock_accuracy: accuracy,
-        offset_scaled_log_variance: variance,
-    };
     AnnounceMessage {
-        header: header,
-        origin_timestamp: origin,
-        current_utc_offset: wire::i16_of(utc_offset),
+        header,
+        origin_timestamp: WireTimestamp { seconds, nanos },
+        current_utc_offset: utc_offset.cast_signed(),
         grandmaster_priority_1: priority1,
-        grandmaster_clock_quality: quality,
+        grandmaster_clock_quality: ClockQuality {
+            clock_class: class,
+            clock_accuracy: accuracy,
+            offset_scaled_log_variance: variance,
+        },
         grandmaster_priority_2: priority2,
         grandmaster_identity: grandmaster,
         steps_removed: steps,
@@ -105,11 +94,11 @@ pub fn content_at(header: Header, s: &[u8], at: usize) -> AnnounceMessage
 }
 
 // Reads the content of a message: fewer than 30 bytes are refused 1.
-pub fn deserialize_content(header: Header, buffer: &[u8]) -> AnnounceRead
+pub fn deserialize_content(header: Header, buffer: &[u8]) -> Result<AnnounceMessage, Refusal>
     ensures { result ≡ read_content header buffer.now }
 {
     if buffer.len() < CONTENT_SIZE {
-        return AnnounceRead::Refused(1);
+        return Err(Refusal::Short);
     }
-    AnnounceRead::Done(content_at(header, buffer, 0))
+    Ok(content_at(header, buffer, 0))
 }

@@ -3,16 +3,18 @@
 
 ghost use Rattle.std.specs.Prelude.{◌≡◌, ◌+◌, ◌≤◌, length};
 ghost use Rattle.wire.specs.Be.{put};
-ghost use Rattle.announce_words.specs.Words.{announce_size, announce_words, fits_fields, announce_refusal, announce_in};
+ghost use Rattle.refused.specs.Refusal.{number_in};
+ghost use Rattle.announce_words.specs.Words.{announce_size, announce_words, announce_refusal, announce_in};
 
 use announce::AnnounceMessage;
 use header::PortIdentity;
+use refused::Refusal;
 
 // How many words an announce takes.
 pub const ANNOUNCE_WORDS: usize = 21;
 
 // The most that each field holds.
-const LIMITS: [u64; 21] = [
+const LIMITS: [u64; ANNOUNCE_WORDS] = [
     0xFFF,
     0xF,
     0xF,
@@ -72,25 +74,11 @@ pub fn put_announce(a: AnnounceMessage, s: &mut [u64], at: usize)
     lent::put_words(s, at, &values);
 }
 
-// Whether each word is at most what its field holds.
-fn fits(s: &[u64]) -> bool
-    requires { announce_size ≤ length s.now }
-    ensures { result ≡ fits_fields s.now }
+// Whether the words are an announce: Short where they are too few, then Unfit where a word is more than its field holds.
+pub fn refusal(s: &[u64]) -> Result<(), Refusal>
+    ensures { number_in result ≡ announce_refusal s.now }
 {
-    lent::within(s, &LIMITS)
-}
-
-// 1 where there are fewer words than an announce takes, then 15 where a word is more than its field holds, else 0.
-pub fn refusal(s: &[u64]) -> u8
-    ensures { result ≡ announce_refusal s.now }
-{
-    if s.len() < ANNOUNCE_WORDS {
-        return 1;
-    }
-    if fits(s) {
-        return 0;
-    }
-    15
+    lent::check(s, &LIMITS)
 }
 
 // The announce that the words hold; of a word that does not fit its field the lowest bits count.

@@ -4,9 +4,11 @@
 ghost use Rattle.std.specs.Prelude.{◌≡◌, ◌+◌, ◌≤◌, length};
 ghost use Rattle.std.specs.Int.{w16};
 ghost use Rattle.std.proofs.Common.{of_z};
+ghost use Rattle.refused.specs.Refusal.{number_in};
 ghost use Rattle.announce.specs.Wire.{reserved_of, with_content, fits_wire, write_answer, write_exit};
 
 use announce::{AnnounceMessage, CONTENT_SIZE};
+use refused::Refusal;
 
 // The widths of the fields on the wire; the fourth is reserved.
 const WIDTHS: [usize; 12] = [6, 4, 2, 1, 1, 1, 1, 2, 1, 8, 2, 1];
@@ -15,8 +17,7 @@ const WIDTHS: [usize; 12] = [6, 4, 2, 1, 1, 1, 1, 2, 1, 8, 2, 1];
 pub fn offset_bits(a: AnnounceMessage) -> u16
     ensures { result ≡ of_z w16 a.current_utc_offset }
 {
-    let z = a.current_utc_offset;
-    wire::bits16(z)
+    a.current_utc_offset.cast_unsigned()
 }
 
 // What the writer puts into the reserved byte, 12, of the content: what lies there.
@@ -33,11 +34,10 @@ pub fn put_content(a: AnnounceMessage, s: &mut [u8], at: usize)
     ensures { s.new ≡ with_content s.old at a }
 {
     let reserved = reserved_of(s, at);
-    let origin = a.origin_timestamp;
     let quality = a.grandmaster_clock_quality;
     let values = [
-        origin.seconds,
-        origin.nanos as u64,
+        a.origin_timestamp.seconds,
+        a.origin_timestamp.nanos as u64,
         offset_bits(a) as u64,
         reserved as u64,
         a.grandmaster_priority_1 as u64,
@@ -59,19 +59,17 @@ pub fn fits_wire(seconds: u64) -> bool
     seconds <= 0xFFFF_FFFF_FFFF
 }
 
-// Writes the content of a message: 15 where the wire cannot hold it, then 1 where the buffer is short, else 0.
+// Writes the content of a message: refused 15 where the wire cannot hold it, then 1 where the buffer is short.
 // A refusal writes nothing.
-pub fn serialize_content(a: AnnounceMessage, buffer: &mut [u8]) -> u8
-    ensures { (result ≡ write_answer buffer.old a) × (buffer.new ≡ write_exit buffer.old a) }
+pub fn serialize_content(a: AnnounceMessage, buffer: &mut [u8]) -> Result<(), Refusal>
+    ensures { (number_in result ≡ write_answer buffer.old a) × (buffer.new ≡ write_exit buffer.old a) }
 {
-    let origin = a.origin_timestamp;
-    let fits = fits_wire(origin.seconds);
-    if !fits {
-        return 15;
+    if !fits_wire(a.origin_timestamp.seconds) {
+        return Err(Refusal::Unfit);
     }
     if buffer.len() < CONTENT_SIZE {
-        return 1;
+        return Err(Refusal::Short);
     }
     put_content(a, buffer, 0);
-    0
+    Ok(())
 }

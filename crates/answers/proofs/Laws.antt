@@ -3,15 +3,14 @@
 use Rattle.std.specs.Prelude.{ℕ, suc, ◌+◌, ◌*◌, ◌≤◌, ◌<◌, ◌≡◌, refl, List, [], ◌∷◌, ◌++◌, length, take, get_or, set}
 use Rattle.std.proofs.Common.{sym, ap, ◌∙◌, append-nil, append_assoc, arith, length-append, take-suc, length-take-le}
 use Rattle.wire.specs.Be.{put}
-use Rattle.wire.proofs.BeLaws.{length-put, put-nil, put-put}
-use Rattle.wire.specs.Refusal.{on-done, on-refused}
+use Rattle.wire.proofs.BeLaws.{length-put, put-put}
 use Rattle.decision.specs.declared.RecommendedState.{RecommendedState}
 use Rattle.decision.specs.declared.RecommendedState.TheVariants.{Stay, M1, M2, M3, P1, P2, S1}
 use Rattle.states.specs.declared.PortAnswer.{PortAnswer}
 use Rattle.bmca.specs.declared.Decision.{Decision}
 use Rattle.lent.specs.Laws.{put_next}
 use Rattle.announce_words.specs.Words.{announce_words}
-use Rattle.answers.specs.Answers.{port_size, decision_size, tally_words, state_words, ports_words, decision_words}
+use Rattle.answers.specs.Answers.{port_size, decision_size, tally_words, state_words, ports_words, decided_words}
 
 -- a state takes 22 words
 pub length-state : (s : RecommendedState) → length (state_words s) ≡ port_size
@@ -73,14 +72,7 @@ module _ (s : List ℕ) (d : Decision) (room : decision_size ≤ length s) where
     length-decision = length-put head_put 4 (ports_words d.answers) (omega (arith, long, length-head)) ∙ length-head
 
     -- with the ports they are the words of the decision
-    pub decision-put : d.number ≡ 0 → put head_put 4 (ports_words d.answers) ≡ put s 0 (decision_words d)
-    decision-put z =
+    pub decision-put : put head_put 4 (ports_words d.answers) ≡ put s 0 (decided_words d)
+    decision-put =
         ap (λ (t : List ℕ). put t 4 (ports_words d.answers)) head-put
         ∙ put-put s 0 4 (tally_words d.tallies ++ (d.ports ∷ [])) (ports_words d.answers) refl (omega (arith, long))
-        ∙ ap (put s 0) (sym (on-done d.number ((tally_words d.tallies ++ (d.ports ∷ [])) ++ ports_words d.answers) (λ _. []) z))
-
--- a refusal writes nothing
-pub decision-refused : (s : List ℕ) (d : Decision) → (d.number ≡ 0 → ⊥) → s ≡ put s 0 (decision_words d)
-decision-refused s d ne =
-    sym (put-nil s 0)
-    ∙ ap (put s 0) (sym (on-refused d.number ((tally_words d.tallies ++ (d.ports ∷ [])) ++ ports_words d.answers) (λ _. []) ne))

@@ -1,26 +1,19 @@
 -- The words of what the calls answer, and paper 01's number of it. A refusal has no words.
 -- Assumes nothing.
-use Rattle.std.specs.Prelude.{ℕ, List, [], ◌∷◌, ◌++◌}
-use Rattle.wire.specs.Refusal.{on_zero}
+use Rattle.std.specs.Prelude.{ℕ, List, [], ◌∷◌, ◌++◌, Option, Some, None, Result, Ok, Err}
+use Rattle.refused.specs.declared.Refusal.{Refusal}
+use Rattle.refused.specs.Refusal.{number_of}
 use Rattle.announce.specs.declared.AnnounceMessage.{AnnounceMessage}
 use Rattle.tlv.specs.declared.TlvRead.{TlvRead}
 use Rattle.tlv.specs.declared.TlvRead.TheVariants as tlv
-use Rattle.frame.specs.declared.FrameRead.{FrameRead}
-use Rattle.frame.specs.declared.FrameRead.TheVariants as frame
 use Rattle.frame.specs.declared.Message.{Message}
 use Rattle.verdict.specs.declared.DatasetOrdering.{DatasetOrdering}
 use Rattle.verdict.specs.declared.DatasetOrdering.TheVariants.{Better, BetterByTopology, Error1, Error2, WorseByTopology, Worse}
 use Rattle.choice.specs.declared.Candidate.{Candidate}
-use Rattle.choice.specs.declared.Best.{Best}
-use Rattle.choice.specs.declared.Best.TheVariants as best
-use Rattle.candidates.specs.declared.CandidateRead.{CandidateRead}
-use Rattle.candidates.specs.declared.CandidateRead.TheVariants as candidate
 use Rattle.decision.specs.declared.RecommendedState.{RecommendedState}
 use Rattle.decision.specs.declared.RecommendedState.TheVariants.{Stay, M1, M2, M3, P1, P2, S1}
 use Rattle.states.specs.declared.PortAnswer.{PortAnswer}
 use Rattle.foreign_master.specs.declared.Tallies.{Tallies}
-use Rattle.foreign_master.specs.declared.Answer.{Answer}
-use Rattle.foreign_master.specs.declared.Answer.TheVariants as master
 use Rattle.bmca.specs.declared.Decision.{Decision}
 use Rattle.announce_words.specs.Words.{announce_words}
 use Rattle.candidate_words.specs.Words.{candidate_words}
@@ -49,41 +42,43 @@ decision_size = 180
 abbrev pub tally_words : Tallies → List ℕ
 tally_words t = t.evicted ∷ t.aged_out ∷ t.consumed ∷ []
 
-abbrev pub answer_number : Answer → ℕ
-answer_number (master.Done t) = 0
-answer_number (master.Refused n) = n
+abbrev pub answer_number : Result Tallies Refusal → ℕ
+answer_number (Ok t) = 0
+answer_number (Err e) = number_of e
 
-abbrev pub answer_words : Answer → List ℕ
-answer_words (master.Done t) = tally_words t
-answer_words (master.Refused n) = []
+abbrev pub answer_words : Result Tallies Refusal → List ℕ
+answer_words (Ok t) = tally_words t
+answer_words (Err e) = []
 
 -- ---- a frame: the announce, and where the TLVs begin and end
 
 abbrev pub message_words : Message → List ℕ
 message_words m = announce_words m.announce ++ (m.tlv_start ∷ m.tlv_end ∷ [])
 
-abbrev pub frame_number : FrameRead → ℕ
-frame_number (frame.Done m) = 0
-frame_number (frame.Refused n) = n
+abbrev pub frame_number : Result Message Refusal → ℕ
+frame_number (Ok m) = 0
+frame_number (Err e) = number_of e
 
-abbrev pub frame_words : FrameRead → List ℕ
-frame_words (frame.Done m) = message_words m
-frame_words (frame.Refused n) = []
+abbrev pub frame_words : Result Message Refusal → List ℕ
+frame_words (Ok m) = message_words m
+frame_words (Err e) = []
 
 -- ---- an entry of a list of TLVs: 1, its type, where its value begins, how long it is, the place after it; zeros where there is none
 
-abbrev pub tlv_number : TlvRead → ℕ
-tlv_number (tlv.Entry t b l next) = 0
-tlv_number tlv.End = 0
-tlv_number (tlv.Refused n) = n
+abbrev pub tlv_number : Result TlvRead Refusal → ℕ
+tlv_number (Ok r) = 0
+tlv_number (Err e) = number_of e
 
 abbrev pub entry_words : (type start len next : ℕ) → List ℕ
 entry_words type start len next = 1 ∷ type ∷ start ∷ len ∷ next ∷ []
 
-abbrev pub tlv_words : TlvRead → List ℕ
-tlv_words (tlv.Entry t b l next) = entry_words t b l next.at
-tlv_words tlv.End = 0 ∷ 0 ∷ 0 ∷ 0 ∷ 0 ∷ []
-tlv_words (tlv.Refused n) = []
+abbrev pub read_words : TlvRead → List ℕ
+read_words (tlv.Entry t b l next) = entry_words t b l next.at
+read_words tlv.End = 0 ∷ 0 ∷ 0 ∷ 0 ∷ 0 ∷ []
+
+abbrev pub tlv_words : Result TlvRead Refusal → List ℕ
+tlv_words (Ok r) = read_words r
+tlv_words (Err e) = []
 
 -- ---- a candidate: 1 and its words; zeros where there is none
 
@@ -93,19 +88,17 @@ found_words c = 1 ∷ candidate_words c
 abbrev pub not_found : List ℕ
 not_found = 0 ∷ 0 ∷ 0 ∷ 0 ∷ 0 ∷ 0 ∷ 0 ∷ 0 ∷ 0 ∷ 0 ∷ 0 ∷ 0 ∷ 0 ∷ []
 
-abbrev pub best_words : Best → List ℕ
-best_words best.Nothing = not_found
-best_words (best.Found c) = found_words c
+abbrev pub best_words : Option Candidate → List ℕ
+best_words None = not_found
+best_words (Some c) = found_words c
 
-abbrev pub candidate_number : CandidateRead → ℕ
-candidate_number candidate.Nothing = 0
-candidate_number (candidate.Found c) = 0
-candidate_number (candidate.Refused n) = n
+abbrev pub candidate_number : Result (Option Candidate) Refusal → ℕ
+candidate_number (Ok c) = 0
+candidate_number (Err e) = number_of e
 
-abbrev pub candidate_told : CandidateRead → List ℕ
-candidate_told candidate.Nothing = not_found
-candidate_told (candidate.Found c) = found_words c
-candidate_told (candidate.Refused n) = []
+abbrev pub candidate_told : Result (Option Candidate) Refusal → List ℕ
+candidate_told (Ok c) = best_words c
+candidate_told (Err e) = []
 
 -- ---- a verdict: its place among the verdicts
 
@@ -139,5 +132,13 @@ unfoldable pub ports_words : List PortAnswer → List ℕ
 ports_words [] = []
 ports_words (a ∷ more) = state_words a.state ++ ports_words more
 
-abbrev pub decision_words : Decision → List ℕ
-decision_words d = on_zero d.number ((tally_words d.tallies ++ (d.ports ∷ [])) ++ ports_words d.answers) (λ _. [])
+abbrev pub decided_words : Decision → List ℕ
+decided_words d = (tally_words d.tallies ++ (d.ports ∷ [])) ++ ports_words d.answers
+
+abbrev pub decision_number : Result Decision Refusal → ℕ
+decision_number (Ok d) = 0
+decision_number (Err e) = number_of e
+
+abbrev pub decision_words : Result Decision Refusal → List ℕ
+decision_words (Ok d) = decided_words d
+decision_words (Err e) = []

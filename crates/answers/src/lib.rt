@@ -4,6 +4,7 @@
 
 ghost use Rattle.std.specs.Prelude.{◌≡◌, ◌+◌, ◌≤◌, length};
 ghost use Rattle.wire.specs.Be.{put};
+ghost use Rattle.refused.specs.Refusal.{number_in};
 ghost use Rattle.answers.specs.Answers.{
   tally_size,
   frame_size,
@@ -18,6 +19,7 @@ ghost use Rattle.answers.specs.Answers.{
   frame_number,
   frame_words,
   entry_words,
+  read_words,
   tlv_number,
   tlv_words,
   found_words,
@@ -29,17 +31,19 @@ ghost use Rattle.answers.specs.Answers.{
   carrying_words,
   state_words,
   ports_words,
+  decided_words,
+  decision_number,
   decision_words,
 };
 
 use announce::AnnounceMessage;
 use bmca::Decision;
-use candidates::CandidateRead;
-use choice::{Best, Candidate};
+use choice::Candidate;
 use compare::DatasetOrdering;
 use decision::RecommendedState;
-use foreign_master::{Answer, Tallies};
-use frame::{FrameRead, Message};
+use foreign_master::Tallies;
+use frame::Message;
+use refused::Refusal;
 use states::PortAnswer;
 use tlv::TlvRead;
 
@@ -68,6 +72,16 @@ const NOT_FOUND: [u64; 13] = [0; 13];
 
 const NO_MESSAGE: [u64; 21] = [0; 21];
 
+// The number of a call that answers no more: 0 where it is done.
+pub fn number(told: Result<(), Refusal>) -> u32
+    ensures { result ≡ number_in told }
+{
+    match told {
+        Ok(()) => 0,
+        Err(e) => e.number() as u32,
+    }
+}
+
 fn put_tallies(tallies: Tallies, s: &mut [u64])
     requires { tally_size ≤ length s.old }
     ensures { s.new ≡ put s.old 0 (tally_words tallies) }
@@ -77,13 +91,13 @@ fn put_tallies(tallies: Tallies, s: &mut [u64])
 }
 
 // Of a registration or of ageing.
-pub fn tell(told: Answer, s: &mut [u64]) -> u32
+pub fn tell(told: Result<Tallies, Refusal>, s: &mut [u64]) -> u32
     requires { tally_size ≤ length s.old }
     ensures { (result ≡ answer_number told) × (s.new ≡ put s.old 0 (answer_words told)) }
 {
     match told {
-        Answer::Refused(n) => n as u32,
-        Answer::Done(tallies) => {
+        Err(e) => e.number() as u32,
+        Ok(tallies) => {
             put_tallies(tallies, s);
             0
         }
@@ -101,13 +115,13 @@ fn put_message(message: Message, s: &mut [u64])
 }
 
 // Of a frame.
-pub fn tell_frame(told: FrameRead, s: &mut [u64]) -> u32
+pub fn tell_frame(told: Result<Message, Refusal>, s: &mut [u64]) -> u32
     requires { frame_size ≤ length s.old }
     ensures { (result ≡ frame_number told) × (s.new ≡ put s.old 0 (frame_words told)) }
 {
     match told {
-        FrameRead::Refused(n) => n as u32,
-        FrameRead::Done(message) => {
+        Err(e) => e.number() as u32,
+        Ok(message) => {
             put_message(message, s);
             0
         }
@@ -122,24 +136,30 @@ fn put_entry(tlv_type: u16, start: usize, len: usize, next: usize, s: &mut [u64]
     lent::put_words(s, 0, &values);
 }
 
-// Of an entry of a list of TLVs.
-pub fn tell_tlv(told: TlvRead, s: &mut [u64]) -> u32
+fn put_read(read: TlvRead, s: &mut [u64])
     requires { tlv_size ≤ length s.old }
-    ensures { (result ≡ tlv_number told) × (s.new ≡ put s.old 0 (tlv_words told)) }
+    ensures { s.new ≡ put s.old 0 (read_words read) }
 {
-    match told {
-        TlvRead::Refused(n) => n as u32,
-        TlvRead::End => {
-            lent::put_words(s, 0, &NO_TLV);
-            0
-        }
+    match read {
+        TlvRead::End => lent::put_words(s, 0, &NO_TLV),
         TlvRead::Entry {
             tlv_type,
             start,
             len,
             next,
-        } => {
-            put_entry(tlv_type, start, len, next.at, s);
+        } => put_entry(tlv_type, start, len, next.at, s),
+    }
+}
+
+// Of an entry of a list of TLVs.
+pub fn tell_tlv(told: Result<TlvRead, Refusal>, s: &mut [u64]) -> u32
+    requires { tlv_size ≤ length s.old }
+    ensures { (result ≡ tlv_number told) × (s.new ≡ put s.old 0 (tlv_words told)) }
+{
+    match told {
+        Err(e) => e.number() as u32,
+        Ok(read) => {
+            put_read(read, s);
             0
         }
     }
@@ -154,16 +174,16 @@ fn put_found(c: Candidate, s: &mut [u64])
 }
 
 // Of a choice.
-pub fn tell_best(best: Best, s: &mut [u64]) -> u32
+pub fn tell_best(best: Option<Candidate>, s: &mut [u64]) -> u32
     requires { found_size ≤ length s.old }
     ensures { (result ≡ 0) × (s.new ≡ put s.old 0 (best_words best)) }
 {
     match best {
-        Best::Nothing => {
+        None => {
             lent::put_words(s, 0, &NOT_FOUND);
             0
         }
-        Best::Found(c) => {
+        Some(c) => {
             put_found(c, s);
             0
         }
@@ -171,14 +191,13 @@ pub fn tell_best(best: Best, s: &mut [u64]) -> u32
 }
 
 // Of a candidate at a place.
-pub fn tell_candidate(told: CandidateRead, s: &mut [u64]) -> u32
+pub fn tell_candidate(told: Result<Option<Candidate>, Refusal>, s: &mut [u64]) -> u32
     requires { found_size ≤ length s.old }
     ensures { (result ≡ candidate_number told) × (s.new ≡ put s.old 0 (candidate_told told)) }
 {
     match told {
-        CandidateRead::Refused(n) => n as u32,
-        CandidateRead::Nothing => tell_best(Best::Nothing, s),
-        CandidateRead::Found(c) => tell_best(Best::Found(c), s),
+        Err(e) => e.number() as u32,
+        Ok(best) => tell_best(best, s),
     }
 }
 
@@ -235,27 +254,33 @@ fn put_ports(answers: [PortAnswer; 8], s: &mut [u64])
     ensures s_after { s.new ≡ put s.old 4 (ports_words answers) }
     ensures answers_len { length answers ≡ 8 }
 {
-    let mut i = 0;
-    while i < 8 {
+    for i in 0..8 {
         let answer = answers[i];
-        let state = answer.state;
-        put_state(state, s, PORTS_START + i * PORT_WORDS);
-        i += 1;
+        put_state(answer.state, s, PORTS_START + i * PORT_WORDS);
     }
 }
 
-// Of a decision.
-pub fn tell_decision(told: Decision, s: &mut [u64]) -> u32
+fn put_decision(d: Decision, s: &mut [u64])
     requires { decision_size ≤ length s.old }
-    ensures { (result ≡ told.number) × (s.new ≡ put s.old 0 (decision_words told)) }
+    ensures { s.new ≡ put s.old 0 (decided_words d) }
 {
-    if told.number != 0 {
-        return told.number as u32;
-    }
-    let tallies = told.tallies;
-    let answers = told.answers;
+    let tallies = d.tallies;
+    let answers = d.answers;
     put_tallies(tallies, s);
-    s[3] = told.ports as u64;
+    s[3] = d.ports as u64;
     put_ports(answers, s);
-    0
+}
+
+// Of a decision.
+pub fn tell_decision(told: Result<Decision, Refusal>, s: &mut [u64]) -> u32
+    requires { decision_size ≤ length s.old }
+    ensures { (result ≡ decision_number told) × (s.new ≡ put s.old 0 (decision_words told)) }
+{
+    match told {
+        Err(e) => e.number() as u32,
+        Ok(d) => {
+            put_decision(d, s);
+            0
+        }
+    }
 }

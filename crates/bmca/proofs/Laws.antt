@@ -1,12 +1,15 @@
 -- What a decision does to the book that a store holds, and what its answer is by that book.
 -- Assumes nothing.
-use Prim.Native.Nat.{ℕ, zero, suc, ◌+◌, ◌≤◌}
-use Rattle.std.specs.Prelude.{◌≡◌, true, List, ◌++◌, length, get_or}
+use Prim.Native.Nat.{ℕ, zero, suc, ◌≤◌}
+use Rattle.std.specs.Prelude.{◌≡◌, true, Option, Result, Ok, Err, List, ◌++◌, length, get_or}
 use Rattle.std.proofs.Math.Path.{refl, sym, ap}
-use Rattle.std.proofs.Common.{◌∙◌}
-use Rattle.std.proofs.Math.Option.{Option}
+use Rattle.std.proofs.Common.{◌∙◌, arith}
 use Rattle.std.proofs.Math.ListN.{drop}
 use Rattle.wire.specs.Refusal.{on_zero, on-done, on-refused}
+use Rattle.refused.specs.declared.Refusal.{Refusal}
+use Rattle.refused.specs.Refusal.{number_of}
+use Rattle.refused.specs.Refusal as refusal
+use Rattle.refused.proofs.Laws.{number-positive, refused-number}
 use Rattle.announce.specs.declared.ClockQuality.{ClockQuality}
 use Rattle.compare.specs.declared.InternalDefaultDS.{InternalDefaultDS}
 use Rattle.choice.specs.declared.BestAnnounceMessage.{BestAnnounceMessage}
@@ -21,7 +24,8 @@ use Rattle.book.proofs.Rules.{checked}
 use Rattle.foreign_master.specs.Calls.{tallies_of, exit_in}
 use Rattle.foreign_master.proofs.Steps.{tallies-eq}
 use Rattle.foreign_master.proofs.Laws.{After, done-after}
-use Rattle.bmca.specs.Decide.{blanks, consuming_of, refused_with, own_in, decide_call, decide_of, decide_answer, decide_exit, decided_store, gone_store}
+use Rattle.bmca.specs.declared.Decision.{Decision}
+use Rattle.bmca.specs.Decide.{blanks, consuming_of, own_in, decide_call, decide_of, decide_answer, decide_exit, decided_store, gone_store}
 use Rattle.bmca.specs.Plan.{plan_of, answers_in}
 use Rattle.bmca.proofs.Planned.{answers_planned}
 use Rattle.bmca.proofs.Words.{decided-length}
@@ -36,12 +40,16 @@ module _ (s : List ℕ) (p₁ : ℕ) (quality : ClockQuality) (p₂ listening : 
   abbrev Ts : List (Turn ForeignAnnounceMessage)
   Ts = turns reads (decide own listening) (book_of s)
 
-  pub refused : (n : ℕ) → n ≡ store_refusal s → (n ≡ 0 → ⊥) → (refused_with n ≡ decide_answer s p₁ quality p₂ listening) × (s ≡ decide_exit s)
+  abbrev decision : Result Decision Refusal
+  decision = Ok (decide_of (book_of s) p₁ quality p₂ listening)
+
+  pub refused : (e : Refusal) → number_of e ≡ store_refusal s → (Err e ≡ decide_answer s p₁ quality p₂ listening) × (s ≡ decide_exit s)
   unfolding decide_answer decide_exit
-  refused n e ne = (
-    ap refused_with e ∙ sym (on-refused (store_refusal s) (decide_of (book_of s) p₁ quality p₂ listening) refused_with (λ z. ne (e ∙ z))),
-    sym (on-refused (store_refusal s) (decided_store s) (λ _. s) (λ z. ne (e ∙ z))),
-  )
+  refused e h =
+      let no : number_of e ≡ 0 → ⊥ = λ z. omega (arith, number-positive e) in (
+        refused-number e ∙ rw (← h) (sym (on-refused (number_of e) decision refusal.refused no)),
+        rw (← h) (sym (on-refused (number_of e) (decided_store s) (λ _. s) no)),
+      )
 
   module _ (checks : store_refusal s ≡ 0) where
     room : store_words ≤ length s
@@ -67,12 +75,12 @@ module _ (s : List ℕ) (p₁ : ℕ) (quality : ClockQuality) (p₂ listening : 
 
     -- The answer by the store's plan is that of the call.
     pub done :
-        (record { number = 0; ports = get_or s 0 0; answers = answers_in s own (plan_of s own listening); tallies = consuming_of (gone_store s) } ≡ decide_answer s p₁ quality p₂ listening)
+        (Ok (record { ports = get_or s 0 0; answers = answers_in s own (plan_of s own listening); tallies = consuming_of (gone_store s) }) ≡ decide_answer s p₁ quality p₂ listening)
         × (decided_store s ≡ decide_exit s)
     unfolding decide_answer decide_exit decide_of
     done = (
-      (λ i. record { number = 0; ports = sym ports-are i; answers = (answers-are ∙ ap (λ (n : ℕ). states_of own listening Ts ++ drop n blanks) (sym ports-are)) i; tallies = tallies-are i })
-          ∙ sym (on-done (store_refusal s) (decide_of (book_of s) p₁ quality p₂ listening) refused_with checks),
+      (λ i. Ok (record { ports = sym ports-are i; answers = (answers-are ∙ ap (λ (n : ℕ). states_of own listening Ts ++ drop n blanks) (sym ports-are)) i; tallies = tallies-are i }))
+          ∙ sym (on-done (store_refusal s) decision refusal.refused checks),
       sym (on-done (store_refusal s) (decided_store s) (λ _. s) checks),
     )
 
@@ -83,10 +91,10 @@ module _ (s : List ℕ) (p₁ : ℕ) (quality : ClockQuality) (p₂ listening : 
         done-after s checks (decide_call (book_of s) p₁ quality p₂ listening) (decided_store s) refl (decided-length s room sound) (decided_view s room sound own listening)
 
   -- A refusal changes no word.
-  pub refused-exit : ((decide_answer s p₁ quality p₂ listening).number ≡ 0 → ⊥) → decide_exit s ≡ s
-  unfolding decide_answer decide_exit decide_of
-  refused-exit ne = by (store_refusal s) ne
+  pub refused-exit : (e : Refusal) → decide_answer s p₁ quality p₂ listening ≡ Err e → decide_exit s ≡ s
+  unfolding decide_answer decide_exit
+  refused-exit e h = by (store_refusal s) h
     where
-      by : (k : ℕ) → ((on_zero k (decide_of (book_of s) p₁ quality p₂ listening) refused_with).number ≡ 0 → ⊥) → on_zero k (decided_store s) (λ _. s) ≡ s
-      by zero q = absurd (q refl)
+      by : (k : ℕ) → on_zero k decision refusal.refused ≡ Err e → on_zero k (decided_store s) (λ _. s) ≡ s
+      by zero q = cc
       by (suc k) q = refl

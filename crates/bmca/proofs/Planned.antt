@@ -1,11 +1,10 @@
 -- A store's plan: Ebest is the Erbest of the port that received it, so the numbers by candidates are those of the states; and the answers by the plan.
 -- Assumes nothing.
 use Prim.Native.Nat.{ℕ, zero, suc, ◌+◌, ◌-◌, ◌≤◌, ◌<◌}
-use Rattle.std.specs.Prelude.{◌≡◌, Bool, true, false, cond, ltb, get_or}
+use Rattle.std.specs.Prelude.{◌≡◌, Bool, true, false, cond, ltb, get_or, Option, Some, None}
 use Rattle.std.proofs.Math.Path.{refl, ap, ap₂}
 use Rattle.std.proofs.Common.{sym, ◌∙◌}
 use mathlib.Core.List.{List, [], ◌∷◌, ◌++◌}
-use Rattle.std.proofs.Math.Option.{Option, none, some, some-injective}
 use native.Mathlib.Omega.{arith}
 use Rattle.std.proofs.Math.ListN.{drop}
 use Rattle.wire.specs.Flags.{bit}
@@ -41,13 +40,13 @@ pub ebest-next : (n : ℕ) (f : ℕ → Option BestAnnounceMessage) → ebest_of
 ebest-next n f =
     ap ebest_of (tab_snoc n f)
     ∙ sym (steps-ebest (tab n f ++ (f n ∷ [])))
-    ∙ keep-last none (tab n f) (f n)
+    ∙ keep-last None (tab n f) (f n)
     ∙ ap (λ (g : Option BestAnnounceMessage). keep_found g (f n)) (steps-ebest (tab n f))
 
 -- the port of a candidate
 pub receiver-shown : (o : Option BestAnnounceMessage) → receiver_in (shown o) ≡ receiver_of o
-receiver-shown none = refl
-receiver-shown (some b) = refl
+receiver-shown None = refl
+receiver-shown (Some b) = refl
 
 -- what holds of each value
 all-tab : {A : Type 0} (P : A → Type 0) (n : ℕ) (f : ℕ → A) → ((q : ℕ) → q < n → P (f q)) → All P (tab n f)
@@ -69,20 +68,20 @@ module _ (s : List ℕ) where
   received : (q : ℕ) → AllOf (λ v. v.identity.port_number ≡ suc q) (erbest_at s q)
   received q = go (ltb (winner_at s q) (get_or (block s (port_at q) port_words) 1 0))
     where
-      go : (t : Bool) → AllOf (λ v. v.identity.port_number ≡ suc q) (cond t (some (best_at (identity (get_or s 1 0) (1 + q)) (block s (port_at q) port_words) (winner_at s q))) none)
+      go : (t : Bool) → AllOf (λ v. v.identity.port_number ≡ suc q) (cond t (Some (best_at (identity (get_or s 1 0) (1 + q)) (block s (port_at q) port_words) (winner_at s q))) None)
       go true = omega arith
       go false = tt
 
   -- a best message that is the Erbest of the port that received it
   abbrev Stands : BestAnnounceMessage → Type 0
-  Stands w = (erbest_from s w.identity.port_number ≡ some w) × (w.identity.port_number ≤ get_or s 0 0)
+  Stands w = (erbest_from s w.identity.port_number ≡ Some w) × (w.identity.port_number ≤ get_or s 0 0)
 
   stands : (q : ℕ) → q < get_or s 0 0 → AllOf Stands (erbest_at s q)
   stands q h = go (erbest_at s q) refl (received q)
     where
       go : (o : Option BestAnnounceMessage) → erbest_at s q ≡ o → AllOf (λ v. v.identity.port_number ≡ suc q) o → AllOf Stands o
-      go none e r = tt
-      go (some v) e r = (ap (erbest_from s) r ∙ e, omega (arith, r))
+      go None e r = tt
+      go (Some v) e r = (ap (erbest_from s) r ∙ e, omega (arith, r))
 
   ebest-stands : AllOf Stands (ebest_in s)
   unfolding ebest_in ebest_of winner
@@ -95,25 +94,25 @@ module _ (s : List ℕ) where
   ebest-from = go (ebest_in s) ebest-stands
     where
       go : (g : Option BestAnnounceMessage) → AllOf Stands g → erbest_from s (receiver_of g) ≡ g
-      go none a = refl
-      go (some w) a = a.0
+      go None a = refl
+      go (Some w) a = a.0
 
   -- which is there
   pub receiver-there : receiver_of (ebest_in s) ≤ get_or s 0 0
   receiver-there = go (ebest_in s) ebest-stands
     where
       go : (g : Option BestAnnounceMessage) → AllOf Stands g → receiver_of g ≤ get_or s 0 0
-      go none a = omega arith
-      go (some w) a = a.1
+      go None a = omega arith
+      go (Some w) a = a.1
 
   -- so it is port q's Erbest if port q received it
   of_one : (q : ℕ) → OfOne (ebest_in s) (erbest_at s q)
   of_one q = go (ebest_in s) ebest-stands (erbest_at s q) refl (received q)
     where
       go : (g : Option BestAnnounceMessage) → AllOf Stands g → (p : Option BestAnnounceMessage) → erbest_at s q ≡ p → AllOf (λ v. v.identity.port_number ≡ suc q) p → OfOne g p
-      go none a p e r = tt
-      go (some w) a none e r = tt
-      go (some w) a (some v) e r = λ t. some-injective w v (sym a.0 ∙ ap (erbest_from s) (t ∙ r) ∙ e)
+      go None a p e r = tt
+      go (Some w) a None e r = tt
+      go (Some w) a (Some v) e r = λ t. let both : Some w ≡ Some v = sym a.0 ∙ ap (erbest_from s) (t ∙ r) ∙ e in cc
 
   -- and the number by candidates is that of the state
   pub number-at : (own : InternalDefaultDS) (listening q : ℕ) → number_by own (shown (ebest_in s)) (shown (erbest_at s q)) (bit listening q) ≡ number_at s own listening q

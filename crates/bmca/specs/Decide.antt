@@ -1,8 +1,9 @@
 -- What a decision answers, and every word of the store afterwards. A refusal changes no word.
 -- Assumes nothing.
-use Rattle.std.specs.Prelude.{ℕ, zero, suc, ◌+◌, List, [], ◌∷◌, ◌++◌, length, take, drop, get_or}
-use Rattle.std.proofs.Math.Option.{Option, none, some}
+use Rattle.std.specs.Prelude.{ℕ, zero, suc, ◌+◌, List, [], ◌∷◌, ◌++◌, length, take, drop, get_or, Option, Some, None, Result, Ok, Err}
 use Rattle.wire.specs.Refusal.{on_zero}
+use Rattle.refused.specs.declared.Refusal.{Refusal}
+use Rattle.refused.specs.Refusal.{number_of, refused}
 use Rattle.header.specs.declared.PortIdentity.{PortIdentity}
 use Rattle.announce.specs.declared.ClockQuality.{ClockQuality}
 use Rattle.compare.specs.declared.InternalDefaultDS.{InternalDefaultDS}
@@ -35,18 +36,15 @@ blanks = blank ∷ blank ∷ blank ∷ blank ∷ blank ∷ blank ∷ blank ∷ b
 abbrev pub consuming_of : ℕ → Tallies
 consuming_of n = record { evicted = 0; aged_out = 0; consumed = n }
 
--- a refusal: its number alone
-abbrev pub refused_with : ℕ → Decision
-refused_with n = record { number = n; ports = 0; answers = blanks; tallies = consuming_of 0 }
-
 -- a decision, by the turns of the ports: their states over blank ones, and the tallies of the messages that the turns name
 abbrev pub decision_by : InternalDefaultDS → ℕ → List (Turn ForeignAnnounceMessage) → Decision
 decision_by own listening Ts =
-    record { number = 0; ports = length Ts; answers = states_of own listening Ts ++ drop (length Ts) blanks; tallies = tallies_of Ts }
+    record { ports = length Ts; answers = states_of own listening Ts ++ drop (length Ts) blanks; tallies = tallies_of Ts }
 
 -- paper 01's number of an answer, and where it is 0 the ports' answers and the tallies
-abbrev pub answer_of : Decision → ℕ × Option (List PortAnswer × Tallies)
-answer_of d = (d.number, on_zero d.number (some (take d.ports d.answers, d.tallies)) (λ _. none))
+abbrev pub answer_of : Result Decision Refusal → ℕ × Option (List PortAnswer × Tallies)
+answer_of (Ok d) = (0, Some (take d.ports d.answers, d.tallies))
+answer_of (Err e) = (number_of e, None)
 
 -- our own data: the priorities and the quality are given, the identity is the book's
 abbrev pub own_in : Book ForeignAnnounceMessage → ℕ → ClockQuality → ℕ → InternalDefaultDS
@@ -62,8 +60,8 @@ decide_of B p₁ quality p₂ listening =
     decision_by (own_in B p₁ quality p₂) listening (turns reads (decide_call B p₁ quality p₂ listening) B)
 
 -- over a store: 1 and 16 come first
-unfoldable pub decide_answer : List ℕ → ℕ → ClockQuality → ℕ → ℕ → Decision
-decide_answer s p₁ quality p₂ listening = on_zero (store_refusal s) (decide_of (book_of s) p₁ quality p₂ listening) refused_with
+unfoldable pub decide_answer : List ℕ → ℕ → ClockQuality → ℕ → ℕ → Result Decision Refusal
+decide_answer s p₁ quality p₂ listening = on_zero (store_refusal s) (Ok (decide_of (book_of s) p₁ quality p₂ listening)) refused
 
 -- ---- every word afterwards
 

@@ -1,12 +1,10 @@
 -- What is decided over a store before a message is loaded, and the answers by it.
 -- Assumes nothing.
-use Rattle.std.specs.Prelude.{ℕ, zero, suc, ◌≡◌, cond, List, [], ◌∷◌, ◌++◌, drop, get_or}
-use Rattle.std.proofs.Math.Option.{Option, none, some}
+use Rattle.std.specs.Prelude.{ℕ, zero, suc, ◌≡◌, cond, List, [], ◌∷◌, ◌++◌, drop, get_or, Option, Some, None}
 use Rattle.wire.specs.Flags.{bit}
 use Rattle.compare.specs.declared.InternalDefaultDS.{InternalDefaultDS}
 use Rattle.choice.specs.declared.BestAnnounceMessage.{BestAnnounceMessage}
-use Rattle.choice.specs.declared.Best.{Best}
-use Rattle.choice.specs.declared.Best.TheVariants.{Nothing, Found}
+use Rattle.choice.specs.declared.Candidate.{Candidate}
 use Rattle.decision.specs.declared.RecommendedState.{RecommendedState}
 use Rattle.decision.specs.State.{state_of}
 use Rattle.decision.specs.Answer.{number_of}
@@ -38,12 +36,12 @@ ebest_in s = ebest_of (tab (get_or s 0 0) (erbest_at s))
 
 -- the port that received a best message, or a candidate; 0 where there is none
 abbrev pub receiver_of : Option BestAnnounceMessage → ℕ
-receiver_of none = 0
-receiver_of (some b) = b.identity.port_number
+receiver_of None = 0
+receiver_of (Some b) = b.identity.port_number
 
-abbrev pub receiver_in : Best → ℕ
-receiver_in Nothing = 0
-receiver_in (Found c) = c.receiver_port
+abbrev pub receiver_in : Option Candidate → ℕ
+receiver_in None = 0
+receiver_in (Some c) = c.receiver_port
 
 -- the state of port q, and the numbers of all ports' states over eight of 0
 abbrev pub state_at : List ℕ → InternalDefaultDS → ℕ → ℕ → RecommendedState
@@ -67,7 +65,7 @@ Planned s plan = (plan.best ≡ receiver_of (ebest_in s)) × (plan.winners ≡ w
 
 -- the Erbest of the port of this number; 0 is none
 abbrev pub erbest_from : List ℕ → ℕ → Option BestAnnounceMessage
-erbest_from s zero = none
+erbest_from s zero = None
 erbest_from s (suc q) = erbest_at s q
 
 -- the port whose Erbest the state of number n carries, of port q where Ebest was received by `best`

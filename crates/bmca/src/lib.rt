@@ -3,15 +3,14 @@
 #![tactic(auto)]
 
 ghost use Rattle.std.specs.Prelude.{◌≡◌, true, ◌+◌, ◌<◌, ◌≤◌, length, get_or};
-ghost use Rattle.decision.specs.State.{option_of};
 ghost use Rattle.recommend.specs.Number.{shown, carrying_best};
 ghost use Rattle.history.specs.Rules.{ports_max};
 ghost use Rattle.book.specs.Layout.{store_words, identity};
 ghost use Rattle.book.specs.Rules.{sound_words, store_refusal};
+ghost use Rattle.refused.specs.Refusal.{number_in};
 ghost use Rattle.bmca.specs.Decide.{
   blanks,
   consuming_of,
-  refused_with,
   decided_store,
   gone_store,
   erbest_at,
@@ -34,18 +33,17 @@ ghost use Rattle.bmca.specs.Plan.{
 };
 
 use announce::ClockQuality;
-use choice::Best;
+use choice::{BestAnnounceMessage, Candidate};
 use compare::InternalDefaultDS;
-use decision::{BestMessage, RecommendedState};
+use decision::RecommendedState;
 use foreign_master::Tallies;
 use header::PortIdentity;
+use refused::Refusal;
 use states::PortAnswer;
 
-// What is decided: paper 01's number, 0 where it is done, then an answer for each port, port 1 first, and the tallies. Answers past the
-// count of ports are blank; so are all where the call is refused, and the tallies are 0.
+// What is decided: an answer for each port, port 1 first, and the tallies. Answers past the count of ports are blank.
 #[derive(Clone, Copy)]
 pub struct Decision {
-    pub number: u8,
     pub ports: usize,
     pub answers: [PortAnswer; 8],
     pub tallies: Tallies,
@@ -77,11 +75,8 @@ fn winners_of(store: &[u64]) -> [usize; 8]
 {
     let count = store[0] as usize;
     let mut winners = [0; 8];
-    let mut q = 0;
-    while q < count {
-        let winner = winner_at(store, q);
-        winners[q] = winner;
-        q += 1;
+    for q in 0..count {
+        winners[q] = winner_at(store, q);
     }
     winners
 }
@@ -100,7 +95,7 @@ fn receiver_at(store: &[u64], q: usize) -> PortIdentity
 }
 
 // The candidate of port q's Erbest, by the place of its winner.
-fn candidate_at(store: &[u64], q: usize, winner: usize) -> Best
+fn candidate_at(store: &[u64], q: usize, winner: usize) -> Option<Candidate>
     requires store_words_in_bounds { (store_words ≤ length store.now) × (sound_words store.now ≡ true) × (q < get_or store.now 0 0) }
     requires winner_value { winner ≡ winner_at store.now q }
     ensures { result ≡ shown (erbest_at store.now q) }
@@ -108,36 +103,34 @@ fn candidate_at(store: &[u64], q: usize, winner: usize) -> Best
     let at = book::HEAD_WORDS + q * book::PORT_WORDS;
     let count = store[at + 1] as usize;
     if count <= winner {
-        return Best::Nothing;
+        return None;
     }
     let receiver = receiver_at(store, q);
     let best = offers::best_at(&store[at..at + book::PORT_WORDS], winner, receiver);
-    Best::Found(best.candidate(0))
+    Some(best.candidate(0))
 }
 
 // Ebest: the choice among the Erbests, port 1 first.
-fn ebest_of(store: &[u64], winners: [usize; 8]) -> Best
+fn ebest_of(store: &[u64], winners: [usize; 8]) -> Option<Candidate>
     requires { (store_words ≤ length store.now) × (sound_words store.now ≡ true) × (winners ≡ winners_of store.now) }
     ensures { result ≡ shown (ebest_in store.now) }
 {
     let count = store[0] as usize;
-    let mut held = Best::Nothing;
-    let mut q = 0;
-    while q < count {
+    let mut held = None;
+    for q in 0..count {
         let next = candidate_at(store, q, winners[q]);
         held = recommend::keep(held, next);
-        q += 1;
     }
     held
 }
 
 // The port that received it, 0 where there is none.
-fn receiver_of(best: Best) -> usize
+fn receiver_of(best: Option<Candidate>) -> usize
     ensures { result ≡ receiver_in best }
 {
     match best {
-        Best::Nothing => 0,
-        Best::Found(b) => b.receiver_port as usize,
+        None => 0,
+        Some(b) => b.receiver_port as usize,
     }
 }
 
@@ -146,7 +139,7 @@ fn numbers_of(
     store: &[u64],
     winners: [usize; 8],
     own: InternalDefaultDS,
-    global: Best,
+    global: Option<Candidate>,
     listening: u8,
 ) -> [u8; 8]
     requires store_words_in_bounds { (store_words ≤ length store.now) × (sound_words store.now ≡ true) × (winners ≡ winners_of store.now) }
@@ -156,13 +149,10 @@ fn numbers_of(
     let count = store[0] as usize;
     let mut numbers = [0; 8];
     let mut bits = listening;
-    let mut q = 0;
-    while q < count {
+    for q in 0..count {
         let port = candidate_at(store, q, winners[q]);
-        let number = recommend::number(own, global, port, bits % 2 == 1);
-        numbers[q] = number;
-        bits = bits / 2;
-        q += 1;
+        numbers[q] = recommend::number(own, global, port, bits % 2 == 1);
+        bits /= 2;
     }
     numbers
 }
@@ -178,16 +168,16 @@ pub fn plan_of(store: &[u64], own: InternalDefaultDS, listening: u8) -> Plan
     Plan {
         ports: store[0] as usize,
         best: receiver_of(global),
-        winners: winners,
-        numbers: numbers,
+        winners,
+        numbers,
     }
 }
 
 // Port q's Erbest, by the place of its winner.
-fn erbest_at(store: &[u64], q: usize, winner: usize) -> BestMessage
+fn erbest_at(store: &[u64], q: usize, winner: usize) -> Option<BestAnnounceMessage>
     requires store_words_in_bounds { (store_words ≤ length store.now) × (sound_words store.now ≡ true) × (q < get_or store.now 0 0) }
     requires winner_value { winner ≡ winner_at store.now q }
-    ensures { option_of result ≡ erbest_at store.now q }
+    ensures { result ≡ erbest_at store.now q }
 {
     let receiver = receiver_at(store, q);
     let at = book::HEAD_WORDS + q * book::PORT_WORDS;
@@ -204,11 +194,8 @@ fn carried_at(store: &[u64], winners: [usize; 8], number: u8, port: usize) -> Re
     }
     let q = port - 1;
     match erbest_at(store, q, winners[q]) {
-        BestMessage::Nothing => RecommendedState::Stay,
-        BestMessage::Found(b) => {
-            let message = b.message;
-            recommend::carrying(number, message)
-        }
+        None => RecommendedState::Stay,
+        Some(b) => recommend::carrying(number, b.message),
     }
 }
 
@@ -218,9 +205,10 @@ fn source(number: u8, best: usize, q: usize) -> usize
     ensures { result ≡ source_of number best q }
 {
     if recommend::of_port(number) {
-        return q + 1;
+        q + 1
+    } else {
+        best
     }
-    best
 }
 
 // The state of port q by its number: at most one message is loaded.
@@ -228,19 +216,12 @@ fn state_at(store: &[u64], plan: Plan, own: InternalDefaultDS, q: usize) -> Reco
     requires { (store_words ≤ length store.now) × (sound_words store.now ≡ true) × (q < get_or store.now 0 0) × Planned store.now plan }
     ensures { result ≡ state_in store.now own plan q }
 {
-    let number = plan.numbers[q];
-    if number == 0 {
-        return RecommendedState::Stay;
+    match plan.numbers[q] {
+        0 => RecommendedState::Stay,
+        1 => RecommendedState::M1(own),
+        2 => RecommendedState::M2(own),
+        number => carried_at(store, plan.winners, number, source(number, plan.best, q)),
     }
-    if number == 1 {
-        return RecommendedState::M1(own);
-    }
-    if number == 2 {
-        return RecommendedState::M2(own);
-    }
-    let winners = plan.winners;
-    let port = source(number, plan.best, q);
-    carried_at(store, winners, number, port)
 }
 
 // The answer of port q by the plan of the store.
@@ -248,10 +229,9 @@ pub fn answer_at(store: &[u64], plan: Plan, own: InternalDefaultDS, q: usize) ->
     requires { (store_words ≤ length store.now) × (sound_words store.now ≡ true) × (q < get_or store.now 0 0) × Planned store.now plan }
     ensures { result ≡ answer_in store.now own plan q }
 {
-    let state = state_at(store, plan, own, q);
     PortAnswer {
         port_number: q as u16 + 1,
-        state: state,
+        state: state_at(store, plan, own, q),
     }
 }
 
@@ -273,7 +253,7 @@ fn consuming(consumed: u64) -> Tallies
     Tallies {
         evicted: 0,
         aged_out: 0,
-        consumed: consumed,
+        consumed,
     }
 }
 
@@ -284,11 +264,8 @@ fn answers_of(store: &[u64], plan: Plan, own: InternalDefaultDS) -> [PortAnswer;
 {
     let count = store[0] as usize;
     let mut answers = blank_answers();
-    let mut i = 0;
-    while i < count {
-        let answer = answer_at(store, plan, own, i);
-        answers[i] = answer;
-        i += 1;
+    for i in 0..count {
+        answers[i] = answer_at(store, plan, own, i);
     }
     answers
 }
@@ -300,44 +277,27 @@ pub fn consume(store: &mut [u64], winners: [usize; 8]) -> u64
 {
     let count = store[0] as usize;
     let mut gone = 0;
-    let mut q = 0;
-    while q < count {
+    for q in 0..count {
         let at = book::HEAD_WORDS + q * book::PORT_WORDS;
-        let here = consumption::consume_port(&mut store[at..at + book::PORT_WORDS], winners[q]);
-        gone += here;
-        q += 1;
+        gone += consumption::consume_port(&mut store[at..at + book::PORT_WORDS], winners[q]);
     }
     gone
-}
-
-// The number of a refusal, and nothing else.
-fn refused(n: u8) -> Decision
-    ensures { result ≡ refused_with n }
-{
-    Decision {
-        number: n,
-        ports: 0,
-        answers: blank_answers(),
-        tallies: consuming(0),
-    }
 }
 
 // Decides for all ports, on a store whose check has answered.
 pub fn decide_checked(
     store: &mut [u64],
-    checked: u8,
+    checked: Result<(), Refusal>,
     priority_1: u8,
     quality: ClockQuality,
     priority_2: u8,
     listening: u8,
-) -> Decision
-    requires { checked ≡ store_refusal store.old }
+) -> Result<Decision, Refusal>
+    requires { number_in checked ≡ store_refusal store.old }
     ensures value { result ≡ decide_answer store.old priority_1 quality priority_2 listening }
     ensures store_after { store.new ≡ decide_exit store.old }
 {
-    if checked != 0 {
-        return refused(checked);
-    }
+    checked?;
     let own = InternalDefaultDS {
         clock_identity: store[1],
         clock_quality: quality,
@@ -346,25 +306,23 @@ pub fn decide_checked(
     };
     let plan = plan_of(store, own, listening);
     let answers = answers_of(store, plan, own);
-    let winners = plan.winners;
-    let consumed = consume(store, winners);
-    Decision {
-        number: 0,
+    let consumed = consume(store, plan.winners);
+    Ok(Decision {
         ports: plan.ports,
-        answers: answers,
+        answers,
         tallies: consuming(consumed),
-    }
+    })
 }
 
-// Decides for all ports by our priorities and quality and a byte, bit k - 1 set if port k listens, bits above the count ignored: 1 where
-// the store is too short, then 16 where its book is unsound.
+// Decides for all ports by our priorities and quality and a byte, bit k - 1 set if port k listens, bits above the count ignored. The
+// store is checked first.
 pub fn decide(
     store: &mut [u64],
     priority_1: u8,
     quality: ClockQuality,
     priority_2: u8,
     listening: u8,
-) -> Decision
+) -> Result<Decision, Refusal>
     ensures value { result ≡ decide_answer store.old priority_1 quality priority_2 listening }
     ensures store_after { store.new ≡ decide_exit store.old }
 {

@@ -1,6 +1,6 @@
 -- When the words of a store are a sound book, level by level, and what soundness gives a caller.
 -- Assumes nothing.
-use Rattle.std.specs.Prelude.{ℕ, ◌-◌, ◌^◌, ◌<◌, Bool, true, false, not, ◌&&◌, cond, List, ◌≡◌, refl, ltb, leb, eqb, length, get_or}
+use Rattle.std.specs.Prelude.{ℕ, ◌^◌, ◌<◌, Bool, true, false, not, ◌&&◌, cond, List, ◌≡◌, refl, ltb, leb, eqb, length, get_or}
 use Rattle.std.proofs.Common.{ap, ◌∙◌, leb-true, ltb-true, ltb-false, arith}
 use Rattle.std.proofs.lemmas.Bool.{eqb-false, not-true}
 use Rattle.wire.specs.Below.{both}

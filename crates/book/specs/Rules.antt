@@ -42,6 +42,10 @@ sound_words s =
 unfoldable pub store_refusal : List ℕ → ℕ
 store_refusal s = cond (ltb (length s) store_words) 1 (cond (sound_words s) 0 16)
 
+-- a store that is long enough for a book, and holds a sound one
+abbrev pub SoundStore : List ℕ → Type 0
+SoundStore s = (store_words ≤ length s) × (sound_words s ≡ true)
+
 -- what passes is long enough, and its book is sound
 pub record Passed (s : List ℕ) : Type 0 where
   pub room : store_words ≤ length s

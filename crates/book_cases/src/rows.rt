@@ -1,18 +1,15 @@
 // A row of a script: tokens with one space between them.
-ghost use Rattle.std.specs.Prelude.{◌≤◌, length};
+ghost use Rattle.std.specs.Prelude.{◌≤◌};
+
+use refused::Refusal;
 
 pub fn cell(row: &[u8], i: usize) -> u8 {
-    if i < row.len() {
-        return row[i];
-    }
-    b' '
+    row.get(i).copied().unwrap_or(b' ')
 }
 
-// How many spaces were passed, and the number read so far.
-#[derive(Clone, Copy)]
-struct Reading {
-    spaces: u64,
-    value: u64,
+// Token n of a row, empty where it has fewer.
+fn token(row: &[u8], n: usize) -> &[u8] {
+    row.split(|c| *c == b' ').nth(n).unwrap_or(b"")
 }
 
 fn digit(c: u8) -> u64
@@ -25,84 +22,48 @@ fn digit(c: u8) -> u64
     }
 }
 
-// A number with one digit more.
-fn longer(x: u64, base: u64, c: u8) -> u64 {
-    let kept = x % 0x1000_0000_0000_0000;
-    if base == 10 {
-        return kept * 10 + digit(c);
-    }
-    kept * 16 + digit(c)
-}
-
-// One byte more, for the number of token n.
-fn read_on(s: Reading, n: u64, base: u64, c: u8) -> Reading {
-    if c == b' ' {
-        return Reading {
-            spaces: s.spaces % 100 + 1,
-            value: s.value,
-        };
-    }
-    if s.spaces == n {
-        return Reading {
-            spaces: s.spaces,
-            value: longer(s.value, base, c),
-        };
-    }
-    s
-}
-
-fn number(row: &[u8], n: u64, base: u64) -> u64 {
-    let mut s = Reading {
-        spaces: 0,
-        value: 0,
-    };
-    for i in 0..row.len() {
-        s = read_on(s, n, base, row[i]);
-    }
-    s.value
+// Token n as a number.
+fn number(row: &[u8], n: usize, base: u64) -> u64 {
+    token(row, n).iter().fold(0u64, |x, c| {
+        x.wrapping_mul(base).wrapping_add(digit(*c))
+    })
 }
 
 // Token n as a hexadecimal number, and as a decimal one; 0 where there is none.
 
-pub fn hex(row: &[u8], n: u64) -> u64 {
+pub fn hex(row: &[u8], n: usize) -> u64 {
     number(row, n, 16)
 }
 
-pub fn decimal(row: &[u8], n: u64) -> u64 {
+pub fn decimal(row: &[u8], n: usize) -> u64 {
     number(row, n, 10)
 }
 
-// One space more, where it is one.
-fn passed(spaces: u64, c: u8) -> u64 {
-    if c == b' ' {
-        return spaces % 100 + 1;
-    }
-    spaces
-}
-
 // The first byte of token n.
-pub fn letter(row: &[u8], n: u64) -> u8 {
-    let mut spaces = 0;
-    for i in 0..row.len() {
-        if spaces == n {
-            return row[i];
-        }
-        spaces = passed(spaces, row[i]);
-    }
-    b' '
+pub fn letter(row: &[u8], n: usize) -> u8 {
+    token(row, n).first().copied().unwrap_or(b' ')
 }
 
-// Where the row ends that begins at a place.
-pub fn end(table: &[u8], from: usize) -> usize
-    requires { from ≤ length table.now }
-    ensures { (from ≤ result) × (result ≤ length table.now) }
-{
-    let mut i = from;
-    while i < table.len() {
-        if table[i] == b';' {
-            return i;
-        }
-        i += 1;
+// Token n as the number of an answer: 0 where it is done, else that of its refusal.
+pub fn answer(row: &[u8], n: usize) -> Result<(), Refusal> {
+    match decimal(row, n) {
+        0 => Ok(()),
+        1 => Err(Refusal::Short),
+        2 => Err(Refusal::ReservedType),
+        3 => Err(Refusal::LengthField),
+        4 => Err(Refusal::OddTlv),
+        5 => Err(Refusal::NoAnnounce),
+        6 => Err(Refusal::NoPort),
+        7 => Err(Refusal::OwnPort),
+        8 => Err(Refusal::NotAcceptable),
+        9 => Err(Refusal::OwnClock),
+        10 => Err(Refusal::Sequence),
+        11 => Err(Refusal::Steps),
+        12 => Err(Refusal::NinthMaster),
+        13 => Err(Refusal::LongStep),
+        14 => Err(Refusal::OutOfRange),
+        15 => Err(Refusal::Unfit),
+        16 => Err(Refusal::Unsound),
+        _ => Err(Refusal::WrongLine),
     }
-    table.len()
 }

@@ -1,8 +1,10 @@
 // Scripts: rows that call, and rows that say what the book then holds.
 use crate::rows;
+use book_vectors::sent::Sent;
 use book_vectors::starts::Setup;
-use book_vectors::{calls, rules, starts};
-use foreign_master::Answer;
+use book_vectors::{calls, rules, sent, starts};
+use foreign_master::Tallies;
+use refused::Refusal;
 use vectors::tally::Tally;
 use words::word;
 
@@ -15,7 +17,7 @@ fn fresh(store: &mut [u64], before: &[u64], row: &[u8]) -> bool {
         interval: rows::hex(row, 3),
         others: rows::hex(row, 4),
     };
-    starts::right(store, before, setup, rows::decimal(row, 5))
+    starts::right(store, before, setup, rows::answer(row, 5))
 }
 
 // G ports rule place interval number: a fresh start, with this interval for one port.
@@ -27,17 +29,7 @@ fn fresh_but_one(store: &mut [u64], before: &[u64], row: &[u8]) -> bool {
         interval: rows::hex(row, 4),
         others: 100,
     };
-    starts::right(store, before, setup, rows::decimal(row, 5))
-}
-
-// What a frame says, and at which port.
-#[derive(Clone, Copy)]
-struct Sent {
-    port: u64,
-    letter: u8,
-    kind: u8,
-    sequence: u64,
-    steps: u64,
+    starts::right(store, before, setup, rows::answer(row, 5))
 }
 
 fn sending(row: &[u8]) -> Sent {
@@ -50,50 +42,52 @@ fn sending(row: &[u8]) -> Sent {
     }
 }
 
-// A refusal has this number, and changes no word.
-fn refused(answer: Answer, number: u64, store: &[u64], before: &[u64]) -> bool {
-    calls::is(answer, number, 0, 0) & words::same(store, before)
+// A call is refused so, and changes no word.
+fn refused(answer: Result<Tallies, Refusal>, why: Refusal, store: &[u64], before: &[u64]) -> bool {
+    answer.err() == Some(why) && store == before
 }
 
 // A message taken is the last of its sender, and changes no word of another port.
-fn taken(answer: Answer, evicted: u64, s: Sent, store: &[u64], before: &[u64]) -> bool {
+fn taken(
+    answer: Result<Tallies, Refusal>,
+    evicted: u64,
+    s: Sent,
+    store: &[u64],
+    before: &[u64],
+) -> bool {
     let at = words::port_at(s.port);
-    calls::is(answer, 0, evicted, 0)
-        & words::same_but(store, before, at, at + 820)
-        & calls::newest(store, s.port, s.letter, s.kind, s.sequence, s.steps)
+    calls::is(answer, Ok(()), evicted, 0)
+        && words::same_but(store, before, at, at + 820)
+        && calls::newest(store, s)
 }
 
 // R port sender frame sequence steps number evicted: a frame at a port.
 fn registered(store: &mut [u64], before: &[u64], row: &[u8]) -> bool {
     let s = sending(row);
-    let number = rows::decimal(row, 6);
-    let answer = calls::register(store, s.port, s.letter, s.kind, s.sequence, s.steps);
-    if number != 0 {
-        return refused(answer, number, store, before);
+    let answer = calls::register(store, s);
+    match rows::answer(row, 6) {
+        Ok(()) => taken(answer, rows::decimal(row, 7), s, store, before),
+        Err(why) => refused(answer, why, store, before),
     }
-    taken(answer, rows::decimal(row, 7), s, store, before)
 }
 
 // A step number gone: a step of age, which changes no word of the head, of an interval or past the book.
 fn aged(store: &mut [u64], before: &[u64], row: &[u8]) -> bool {
-    let number = rows::decimal(row, 2);
     let answer = foreign_master::step_age(store, rows::hex(row, 1));
-    if number != 0 {
-        return refused(answer, number, store, before);
+    match rows::answer(row, 2) {
+        Ok(()) => {
+            calls::is(answer, Ok(()), 0, rows::decimal(row, 3))
+                && words::same_but(store, before, 20, 6580)
+                && intervals_stay(store, before)
+        }
+        Err(why) => refused(answer, why, store, before),
     }
-    calls::is(answer, 0, 0, rows::decimal(row, 3))
-        & words::same_but(store, before, 20, 6580)
-        & intervals_stay(store, before)
 }
 
 fn intervals_stay(store: &[u64], before: &[u64]) -> bool {
-    for q in 0..8 {
-        let at = words::port_at(q + 1);
-        if word(store, at) != word(before, at) {
-            return false;
-        }
-    }
-    true
+    (1..=8)
+        .map(words::port_at)
+        .all(|at| word(store, at) == word(before, at))
 }
 
 // S port sender sequence count: so many messages, one after the other, all taken with none put out.
@@ -103,8 +97,8 @@ fn series(store: &mut [u64], row: &[u8]) -> bool {
     let first = rows::hex(row, 3) % 65536;
     let count = rows::hex(row, 4) % 65536;
     for k in 0..count {
-        let answer = calls::register(store, port, letter, b'g', (first + k) % 65536, 0);
-        if !calls::is(answer, 0, 0, 0) {
+        let answer = calls::register(store, sent::good(port, letter, (first + k) % 65536, 0));
+        if !calls::is(answer, Ok(()), 0, 0) {
             return false;
         }
     }
@@ -117,8 +111,8 @@ fn several(store: &mut [u64], row: &[u8]) -> bool {
     let letter = rows::letter(row, 2) % 128;
     let count = rows::hex(row, 3) % 16;
     for k in 0..count {
-        let answer = calls::register(store, port, letter + k as u8, b'g', 0, 0);
-        if !calls::is(answer, 0, 0, 0) {
+        let answer = calls::register(store, sent::good(port, letter + k as u8, 0, 0));
+        if !calls::is(answer, Ok(()), 0, 0) {
             return false;
         }
     }
@@ -130,8 +124,8 @@ fn holds_so_many(store: &[u64], port: u64, i: u64, letter: u8, digit: u8) -> boo
     let messages = word(store, words::master_at(port, i) + 3);
     let offers = offers::is_qualified(messages);
     calls::is_sender(store, port, i, letter)
-        & (messages == digit as u64 % 16)
-        & (offers == (b'1' < digit))
+        && messages == digit as u64 % 16
+        && offers == (b'1' < digit)
 }
 
 // H port sender-and-count ..: the masters of a port in their order, and how many messages each holds.
@@ -155,8 +149,8 @@ fn message(store: &[u64], row: &[u8]) -> bool {
     let port = rows::hex(row, 1);
     let i = rows::hex(row, 2);
     let k = rows::hex(row, 3);
-    (words::sequence(store, port, i, k) == rows::hex(row, 4))
-        & (words::age(store, port, i, k) == rows::hex(row, 5))
+    words::sequence(store, port, i, k) == rows::hex(row, 4)
+        && words::age(store, port, i, k) == rows::hex(row, 5)
 }
 
 fn right(store: &mut [u64], before: &[u64], row: &[u8]) -> bool {
@@ -176,26 +170,22 @@ fn right(store: &mut [u64], before: &[u64], row: &[u8]) -> bool {
 // Whether a row is right, and the book sound after it.
 fn holds(store: &mut [u64], before: &mut [u64], row: &[u8]) -> bool {
     words::copy(store, before);
-    right(store, before, row) & rules::sound(store)
+    right(store, before, row) && rules::sound(store)
 }
 
 // Runs the rows of a script, each ended by a semicolon.
 fn all(table: &[u8], store: &mut [u64], before: &mut [u64]) -> Tally {
-    let mut t = Tally { cases: 0, wrong: 0 };
-    let mut at = 0;
+    let mut tally = Tally::default();
     words::lay(store);
-    while at < table.len() {
-        let end = rows::end(table, at);
-        t = t.with(holds(store, before, &table[at..end]));
-        at = end + 1;
+    for row in table.split(|c| *c == b';').filter(|row| !row.is_empty()) {
+        tally = tally.with(holds(store, before, row));
     }
-    t
+    tally
 }
 
 // Runs a script on a store of its own, and writes its line.
 pub fn run(name: &[u8], table: &[u8]) {
     let mut store = [0u64; words::STORE];
     let mut before = [0u64; words::STORE];
-    let t = all(table, &mut store, &mut before);
-    t.report(name);
+    all(table, &mut store, &mut before).report(name);
 }

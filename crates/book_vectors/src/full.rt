@@ -10,9 +10,10 @@ fn interval(q: usize) -> u64
     ensures { (16 ≤ result) × (result ≤ 0x0FFFFFFFFFFFFFFF) }
 {
     if q == 7 {
-        return MAX_INTERVAL;
+        MAX_INTERVAL
+    } else {
+        16 + q as u64 % 8
     }
-    16 + q as u64 % 8
 }
 
 // Two masters of a port have the same clock each, and the ports together all clocks of the list.
@@ -41,10 +42,7 @@ fn sequence(i: usize, k: usize) -> u64 {
 }
 
 fn steps(i: usize, k: usize) -> u64 {
-    if i % 2 == 0 {
-        return 254;
-    }
-    k as u64 % 8
+    if i % 2 == 0 { 254 } else { k as u64 % 8 }
 }
 
 // The first slot of a master's messages.
@@ -75,19 +73,12 @@ fn master_word(q: usize, i: usize, w: usize) -> u64 {
 
 // Word w of a port: beside its masters there is room for four.
 fn port_word(q: usize, w: usize) -> u64 {
-    if w == 0 {
-        return interval(q);
+    match w {
+        0 => interval(q),
+        1 => 8,
+        4..=547 => master_word(q, (w - 4) / 68, (w - 4) % 68),
+        _ => words::laid(w),
     }
-    if w == 1 {
-        return 8;
-    }
-    if w < 4 {
-        return words::laid(w);
-    }
-    if 548 <= w {
-        return words::laid(w);
-    }
-    master_word(q, (w - 4) / 68, (w - 4) % 68)
 }
 
 fn head_word(w: usize) -> u64 {
@@ -102,13 +93,12 @@ fn head_word(w: usize) -> u64 {
 
 fn book_word(w: usize) -> u64 {
     if w < 20 {
-        return head_word(w);
+        head_word(w)
+    } else {
+        port_word((w - 20) / 820, (w - 20) % 820)
     }
-    port_word((w - 20) / 820, (w - 20) % 820)
 }
 
 pub fn fill(s: &mut [u64]) {
-    for i in 0..s.len() {
-        s[i] = book_word(i);
-    }
+    words::fill_by(s, book_word);
 }

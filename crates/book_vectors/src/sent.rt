@@ -19,8 +19,7 @@ pub fn clock(letter: u8) -> u64 {
 
 pub fn number(letter: u8) -> u64 {
     match letter {
-        b'a'..=b'h' => 2,
-        b'p' => 2,
+        b'a'..=b'h' | b'p' => 2,
         b'q' => 257,
         _ => 1,
     }
@@ -41,15 +40,16 @@ pub fn listed(rule: u8) -> usize {
 }
 
 pub fn is_any(rule: u8) -> bool {
-    (rule == b'a') | (rule == b'i') | (rule == b'I') | (rule == b'J')
+    matches!(rule, b'a' | b'i' | b'I' | b'J')
 }
 
 // The letter at a place of a list.
 pub fn listed_letter(rule: u8, i: usize) -> u8 {
     match rule {
         b'i' => b'B',
-        b'w' => { if i == 0 { b'A' } else { b'o' } }
-        b'r' => { if i == 0 { b'A' } else { b'B' } }
+        b'w' if i != 0 => b'o',
+        b'r' if i != 0 => b'B',
+        b'w' | b'r' => b'A',
         _ => b'A' + (i % 17) as u8,
     }
 }
@@ -82,31 +82,52 @@ fn first_byte(kind: u8) -> u64 {
     }
 }
 
+// What is sent, and at which port it is heard: a frame of a kind by a sender, with a sequence and steps.
+#[derive(Clone, Copy)]
+pub struct Sent {
+    pub port: u64,
+    pub letter: u8,
+    pub kind: u8,
+    pub sequence: u64,
+    pub steps: u64,
+}
+
+// A good frame.
+pub fn good(port: u64, letter: u8, sequence: u64, steps: u64) -> Sent {
+    Sent {
+        port,
+        letter,
+        kind: b'g',
+        sequence,
+        steps,
+    }
+}
+
 // The sender of a frame, its type and its length field.
-fn put_sender(f: &mut [u8], letter: u8, kind: u8)
+fn put_sender(f: &mut [u8], sent: Sent)
     requires { length f.old ≡ 70 }
 {
-    wire::put_be(f, 0, 1, first_byte(kind));
-    wire::put_be(f, 2, 2, length_field(kind));
-    wire::put_be(f, 20, 8, clock(letter));
-    wire::put_be(f, 28, 2, number(letter));
+    wire::put_be(f, 0, 1, first_byte(sent.kind));
+    wire::put_be(f, 2, 2, length_field(sent.kind));
+    wire::put_be(f, 20, 8, clock(sent.letter));
+    wire::put_be(f, 28, 2, number(sent.letter));
 }
 
 // What it says, and the length of its TLV.
-fn put_content(f: &mut [u8], kind: u8, sequence: u64, steps: u64)
+fn put_content(f: &mut [u8], sent: Sent)
     requires { length f.old ≡ 70 }
 {
-    let value: u64 = if kind == b'4' { 1 } else { 2 };
-    wire::put_be(f, 30, 2, sequence);
-    wire::put_be(f, 53, 8, 0x0019_0FFF_FE00_0000 + sequence % 65536);
-    wire::put_be(f, 61, 2, steps);
+    let value = if sent.kind == b'4' { 1 } else { 2 };
+    wire::put_be(f, 30, 2, sent.sequence);
+    wire::put_be(f, 53, 8, 0x0019_0FFF_FE00_0000 + sent.sequence % 65536);
+    wire::put_be(f, 61, 2, sent.steps);
     wire::put_be(f, 66, 2, value);
 }
 
 // A frame, of which the bytes up to its size are sent.
-pub fn frame(letter: u8, kind: u8, sequence: u64, steps: u64) -> [u8; 70] {
+pub fn frame(sent: Sent) -> [u8; 70] {
     let mut f = frames::LONG;
-    put_sender(&mut f, letter, kind);
-    put_content(&mut f, kind, sequence, steps);
+    put_sender(&mut f, sent);
+    put_content(&mut f, sent);
     f
 }

@@ -3,16 +3,18 @@
 
 ghost use Rattle.std.specs.Prelude.{◌≡◌, ◌+◌, ◌*◌, ◌≤◌, length};
 ghost use Rattle.wire.specs.Be.{put};
-ghost use Rattle.choice.specs.Candidate.{best_of, winner, itself};
-ghost use Rattle.candidate_words.specs.Words.{candidate_size, candidate_words, fits_candidate, candidate_refusal, candidate_in, candidates_in, fits_all, candidates_of, list_refusal};
+ghost use Rattle.refused.specs.Refusal.{number_in};
+ghost use Rattle.choice.specs.Candidate.{winner, itself};
+ghost use Rattle.candidate_words.specs.Words.{candidate_size, candidate_words, candidate_refusal, candidate_in, candidates_in, fits_all, candidates_of, list_refusal};
 
-use choice::{Best, Candidate};
+use choice::Candidate;
+use refused::Refusal;
 
 // How many words a candidate takes.
 pub const CANDIDATE_WORDS: usize = 12;
 
 // The most that each field holds.
-const LIMITS: [u64; 12] = [
+const LIMITS: [u64; CANDIDATE_WORDS] = [
     0xFF,
     0xFF,
     0xFF,
@@ -49,25 +51,11 @@ pub fn put_candidate(c: Candidate, s: &mut [u64], at: usize)
     lent::put_words(s, at, &values);
 }
 
-// Whether each word is at most what its field holds.
-fn fits(s: &[u64]) -> bool
-    requires { candidate_size ≤ length s.now }
-    ensures { result ≡ fits_candidate s.now }
+// Whether the words are a candidate: Short where they are too few, then Unfit where a word is more than its field holds.
+pub fn refusal(s: &[u64]) -> Result<(), Refusal>
+    ensures { number_in result ≡ candidate_refusal s.now }
 {
-    lent::within(s, &LIMITS)
-}
-
-// 1 where there are fewer words than a candidate takes, then 15 where a word is more than its field holds, else 0.
-pub fn refusal(s: &[u64]) -> u8
-    ensures { result ≡ candidate_refusal s.now }
-{
-    if s.len() < CANDIDATE_WORDS {
-        return 1;
-    }
-    if fits(s) {
-        return 0;
-    }
-    15
+    lent::check(s, &LIMITS)
 }
 
 // The candidate that the words hold; of a word that does not fit its field the lowest bits count.
@@ -96,48 +84,44 @@ fn all_fit(s: &[u64], n: usize) -> bool
     requires { n * candidate_size ≤ length s.now }
     ensures { result ≡ fits_all n s.now }
 {
-    let mut i = 0;
-    while i < n {
+    for i in 0..n {
         let at = i * CANDIDATE_WORDS;
-        if !fits(&s[at..at + CANDIDATE_WORDS]) {
+        if !lent::within(&s[at..at + CANDIDATE_WORDS], &LIMITS) {
             return false;
         }
-        i += 1;
     }
     true
 }
 
-// 1 where the words are no whole candidates, then 15 where a word is more than its field holds, else 0.
-pub fn list_refusal(s: &[u64]) -> u8
-    ensures { result ≡ list_refusal s.now }
+// Whether the words are a list of candidates: Short where they are no whole ones, then Unfit where a word is more than its field holds.
+pub fn list_refusal(s: &[u64]) -> Result<(), Refusal>
+    ensures { number_in result ≡ list_refusal s.now }
 {
     if s.len() % CANDIDATE_WORDS != 0 {
-        return 1;
+        return Err(Refusal::Short);
     }
-    if all_fit(s, s.len() / CANDIDATE_WORDS) {
-        return 0;
+    if !all_fit(s, s.len() / CANDIDATE_WORDS) {
+        return Err(Refusal::Unfit);
     }
-    15
+    Ok(())
 }
 
 // The choice over n candidates, left to right.
-fn best_of(s: &[u64], n: usize) -> Best
+fn best_of(s: &[u64], n: usize) -> Option<Candidate>
     requires { n * candidate_size ≤ length s.now }
-    ensures { result ≡ best_of (winner itself (candidates_in n s.now)) }
+    ensures { result ≡ winner itself (candidates_in n s.now) }
 {
-    let mut held = Best::Nothing;
-    let mut i = 0;
-    while i < n {
+    let mut held = None;
+    for i in 0..n {
         let at = i * CANDIDATE_WORDS;
-        held = held.keep(candidate_of(&s[at..at + CANDIDATE_WORDS]));
-        i += 1;
+        held = choice::keep(held, candidate_of(&s[at..at + CANDIDATE_WORDS]));
     }
     held
 }
 
-// The choice over the candidates that the words hold, left to right, as find_best::find_best makes it; nothing where there are none.
-pub fn find_best(s: &[u64]) -> Best
-    ensures { result ≡ best_of (winner itself (candidates_of s.now)) }
+// The choice over the candidates that the words hold, left to right, as find_best::find_best makes it; none where there are none.
+pub fn find_best(s: &[u64]) -> Option<Candidate>
+    ensures { result ≡ winner itself (candidates_of s.now) }
 {
     best_of(s, s.len() / CANDIDATE_WORDS)
 }

@@ -1,52 +1,58 @@
 -- The list that a caller lays by asking for the candidates one after the other.
 -- Assumes nothing.
-use Rattle.std.specs.Prelude.{ℕ, zero, suc, ◌+◌, ◌*◌, ◌≤◌, ◌<◌, ◌≡◌, refl, List, [], ◌∷◌, map, length, get_or}
+use Rattle.std.specs.Prelude.{ℕ, zero, suc, ◌+◌, ◌*◌, ◌≤◌, ◌<◌, ◌≡◌, refl, Bool, true, false, cond, ltb, List, [], ◌∷◌, map, length, get_or, slice_get, Option, Some, None, Result, Ok, Err}
 use Rattle.std.proofs.Common.{zero-le, sym, ap, ap₂, ◌∙◌, arith, not-suc-le-zero, le_of_suc-le-suc, suc-mul, length-append, drop_of_length-le}
-use Rattle.std.proofs.Math.Option.{Option, none, some}
-use Rattle.std.proofs.Math.ListN.{get_elem?}
 use Rattle.std.proofs.lemmas.List.{length-map}
 use Rattle.wire.specs.Refusal.{on_zero}
+use Rattle.refused.specs.declared.Refusal.{Refusal}
+use Rattle.refused.specs.Refusal.{refused}
+use Rattle.refused.proofs.Laws.{number-of}
 use Rattle.choice.specs.declared.BestAnnounceMessage.{BestAnnounceMessage}
 use Rattle.choice.specs.declared.Candidate.{Candidate}
 use Rattle.choice.specs.Choice.{joined}
 use Rattle.history.specs.Rules.{ports_max, masters_max}
 use Rattle.history.specs.Port.{receiver}
 use Rattle.book.specs.Below.{tab, tab-ext}
-use Rattle.book.specs.Layout.{site_of}
-use Rattle.book.specs.Rules.{store_refusal}
+use Rattle.book.specs.Layout.{store_words, site_of}
+use Rattle.book.specs.Rules.{sound_words, store_refusal}
 use Rattle.book.proofs.Rules.{held, port-held, checked}
 use Rattle.offers.specs.Offers.{offers_at, best_at, offering}
-use Rattle.candidates.specs.declared.CandidateRead.{CandidateRead}
-use Rattle.candidates.specs.declared.CandidateRead.TheVariants.{Nothing, Found, Refused}
-use Rattle.candidates.specs.Candidates.{numbered, standing, placed, offered_in, laid, answer_of, read_of, candidate_answer}
+use Rattle.candidates.specs.Candidates.{numbered, standing, placed, offered_in, laid, answer_of, candidate_answer}
 use Rattle.candidates.proofs.Nth.{nth-none}
 use Rattle.candidates.specs.View.{port_in, offers_in}
 use Rattle.candidates.proofs.View.{candidates_view}
 use Rattle.candidates.proofs.Steps.{count-le, answer-done}
 
+-- what a call over a sound store answers
+abbrev pub Answer : Type 0
+Answer = Result (Option Candidate) Refusal
+
+abbrev pub found : Candidate → Answer
+found c = Ok (Some c)
+
 -- what is read of a list, from its first element to its last
-reads_all : (cs : List Candidate) → tab (length cs) (λ k. read_of (get_elem? cs k)) ≡ map Found cs
+reads_all : (cs : List Candidate) → tab (length cs) (λ k. Ok (slice_get cs k)) ≡ map found cs
 reads_all [] = refl
-reads_all (c ∷ cs) = ap (λ (rs : List CandidateRead). Found c ∷ rs) (reads_all cs)
+reads_all (c ∷ cs) = ap (λ (rs : List Answer). found c ∷ rs) (reads_all cs)
 
 -- ---- a caller with room for n, who asks for k = 0, 1, .. until there is nothing
 
 -- an answer, and what the answers after it lay
-abbrev pub next : CandidateRead → List Candidate → List Candidate
-next Nothing cs = []
-next (Found c) cs = c ∷ cs
-next (Refused n) cs = []
+abbrev pub next : Answer → List Candidate → List Candidate
+next (Ok None) cs = []
+next (Ok (Some c)) cs = c ∷ cs
+next (Err e) cs = []
 
 -- by the answers to k = 0, 1, ..
-abbrev pub asking : ℕ → (ℕ → CandidateRead) → List Candidate
+abbrev pub asking : ℕ → (ℕ → Answer) → List Candidate
 asking zero answer = []
 asking (suc n) answer = next (answer 0) (asking n (λ k. answer (suc k)))
 
-asking-ext : (n : ℕ) (f g : ℕ → CandidateRead) → ((k : ℕ) → f k ≡ g k) → asking n f ≡ asking n g
+asking-ext : (n : ℕ) (f g : ℕ → Answer) → ((k : ℕ) → f k ≡ g k) → asking n f ≡ asking n g
 asking-ext zero f g e = refl
 asking-ext (suc n) f g e = ap₂ next (e 0) (asking-ext n (λ k. f (suc k)) (λ k. g (suc k)) (λ k. e (suc k)))
 
-asking-all : (cs : List Candidate) (n : ℕ) → length cs ≤ n → asking n (λ k. read_of (get_elem? cs k)) ≡ cs
+asking-all : (cs : List Candidate) (n : ℕ) → length cs ≤ n → asking n (λ k. Ok (slice_get cs k)) ≡ cs
 asking-all [] zero h = refl
 asking-all [] (suc n) h = refl
 asking-all (c ∷ cs) zero h = absurd (not-suc-le-zero h)
@@ -69,28 +75,37 @@ joined_length m (suc n) f h =
 
 -- ---- the answers of the call
 
--- its number is that of the store's refusal, 0 where there is none; then it holds the k-th of the list, if there is one
-pub answer-whole : (s : List ℕ) (k : ℕ) → answer_of (candidate_answer s k) ≡ (store_refusal s, on_zero (store_refusal s) (get_elem? (laid s) k) (λ _. none))
-unfolding candidate_answer
-answer-whole s k = ways (store_refusal s) (get_elem? (laid s) k)
+-- the numbers of a store's refusals are in the table
+store-le : (s : List ℕ) → store_refusal s ≤ 17
+unfolding store_refusal
+store-le s = by (ltb (length s) store_words) (sound_words s)
   where
-    ways : (n : ℕ) (o : Option Candidate) → answer_of (on_zero n (read_of o) Refused) ≡ (n, on_zero n o (λ _. none))
-    ways zero none = refl
-    ways zero (some c) = refl
-    ways (suc n) o = refl
+    by : (b c : Bool) → cond b 1 (cond c 0 16) ≤ 17
+    by true c = omega arith
+    by false true = omega arith
+    by false false = omega arith
+
+-- its number is that of the store's refusal, 0 where there is none; then it holds the k-th of the list, if there is one
+pub answer-whole : (s : List ℕ) (k : ℕ) → answer_of (candidate_answer s k) ≡ (store_refusal s, on_zero (store_refusal s) (slice_get (laid s) k) (λ _. None))
+unfolding candidate_answer
+answer-whole s k = ways (store_refusal s) (slice_get (laid s) k) (store-le s)
+  where
+    ways : (n : ℕ) (o : Option Candidate) → n ≤ 17 → answer_of (on_zero n (Ok o) refused) ≡ (n, on_zero n o (λ _. None))
+    ways zero o h = refl
+    ways (suc n) o h = ap (λ (k : ℕ). (k, None)) (number-of n (omega arith))
 
 module _ (s : List ℕ) (checks : store_refusal s ≡ 0) where
   -- The call answers the elements of the list, in their order,
-  pub found_all : tab (length (laid s)) (candidate_answer s) ≡ map Found (laid s)
-  found_all = tab-ext (length (laid s)) (candidate_answer s) (λ k. read_of (get_elem? (laid s) k)) (λ k l. sym (answer-done s k checks)) ∙ reads_all (laid s)
+  pub found_all : tab (length (laid s)) (candidate_answer s) ≡ map found (laid s)
+  found_all = tab-ext (length (laid s)) (candidate_answer s) (λ k. Ok (slice_get (laid s) k)) (λ k l. sym (answer-done s k checks)) ∙ reads_all (laid s)
 
   -- and nothing from its length on.
-  pub nothing-after : (k : ℕ) → length (laid s) ≤ k → candidate_answer s k ≡ Nothing
-  nothing-after k h = sym (answer-done s k checks) ∙ ap read_of (nth-none (laid s) k (drop_of_length-le (laid s) h))
+  pub nothing-after : (k : ℕ) → length (laid s) ≤ k → candidate_answer s k ≡ Ok None
+  nothing-after k h = sym (answer-done s k checks) ∙ ap Ok (nth-none (laid s) k (drop_of_length-le (laid s) h))
 
   -- So a caller who asks until there is nothing, and has room enough, lays this list,
   pub laid-by-asking : (n : ℕ) → length (laid s) ≤ n → asking n (candidate_answer s) ≡ laid s
-  laid-by-asking n h = asking-ext n (candidate_answer s) (λ k. read_of (get_elem? (laid s) k)) (λ k. sym (answer-done s k checks)) ∙ asking-all (laid s) n h
+  laid-by-asking n h = asking-ext n (candidate_answer s) (λ k. Ok (slice_get (laid s) k)) (λ k. sym (answer-done s k checks)) ∙ asking-all (laid s) n h
 
   -- which has no more than one candidate of each master that the ports may hold.
   pub laid-length : length (laid s) ≤ ports_max * masters_max

@@ -1,18 +1,16 @@
 -- An element of a list by what is left from it on, and of several lists one after the other.
 -- Assumes nothing.
-use Rattle.std.specs.Prelude.{ℕ, zero, suc, ◌+◌, ◌-◌, ◌≤◌, ◌<◌, ◌≡◌, refl, List, [], ◌∷◌, ◌++◌, length, drop, get_or}
+use Rattle.std.specs.Prelude.{ℕ, zero, suc, ◌+◌, ◌-◌, ◌≤◌, ◌<◌, ◌≡◌, refl, List, [], ◌∷◌, ◌++◌, length, drop, get_or, slice_get, Some, None}
 use Rattle.std.proofs.Common.{sym, ap, ◌∙◌, arith, not-suc-le-zero, le_of_suc-le-suc, drop-cons}
-use Rattle.std.proofs.Math.Option.{none, some}
-use Rattle.std.proofs.Math.ListN.{get_elem?}
 use Rattle.std.proofs.lemmas.List.{drop-append-le}
 use Rattle.std.proofs.Math.Seq.{drop-append-add}
 use Rattle.book.specs.Below.{tab}
 
 module _ {A : Type 0} where
   -- the element that comes next
-  pub nth-next : (xs : List A) (k : ℕ) (x : A) (ys : List A) → drop k xs ≡ x ∷ ys → get_elem? xs k ≡ some x
-  nth-next xs zero x ys e = ap (λ l. get_elem? l 0) e
-  nth-next [] (suc k) x ys e = ap (λ l. get_elem? l 0) e
+  pub nth-next : (xs : List A) (k : ℕ) (x : A) (ys : List A) → drop k xs ≡ x ∷ ys → slice_get xs k ≡ Some x
+  nth-next xs zero x ys e = ap (λ l. slice_get l 0) e
+  nth-next [] (suc k) x ys e = ap (λ l. slice_get l 0) e
   nth-next (z ∷ xs) (suc k) x ys e = nth-next xs k x ys e
 
   pub get_or-next : (xs : List A) (k : ℕ) (x : A) (ys : List A) (d : A) → drop k xs ≡ x ∷ ys → get_or xs k d ≡ x
@@ -21,8 +19,8 @@ module _ {A : Type 0} where
   get_or-next (z ∷ xs) (suc k) x ys d e = get_or-next xs k x ys d e
 
   -- where none is left
-  pub nth-none : (xs : List A) (k : ℕ) → drop k xs ≡ [] → get_elem? xs k ≡ none
-  nth-none xs zero e = ap (λ l. get_elem? l 0) e
+  pub nth-none : (xs : List A) (k : ℕ) → drop k xs ≡ [] → slice_get xs k ≡ None
+  nth-none xs zero e = ap (λ l. slice_get l 0) e
   nth-none [] (suc k) e = refl
   nth-none (z ∷ xs) (suc k) e = nth-none xs k e
 

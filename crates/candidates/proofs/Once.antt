@@ -2,24 +2,20 @@
 -- decision by ports, given that candidates of one grandmaster agree on priority 1, class, accuracy, variance and priority 2.
 -- Assumes nothing.
 use Prim.Native.Nat.{ℕ, suc, ◌-◌, ◌≤◌}
-use Rattle.std.specs.Prelude.{◌≡◌, refl, true}
+use Rattle.std.specs.Prelude.{◌≡◌, refl, true, slice_get, option_map, Option, Some, None, Ok}
 use Rattle.std.proofs.Common.{sym, ◌∙◌, arith}
 use Rattle.std.proofs.Math.Path.{ap, subst}
 use Rattle.std.proofs.Math.Bool.{false}
 use mathlib.Core.List.{List, [], ◌∷◌, map, Memᴰ}
-use Rattle.std.proofs.Math.Option.{Option, none, some, some-injective, none-ne-some}
 use Rattle.std.proofs.Math.Nat.{sub-zero}
-use Rattle.std.proofs.Math.ListN.{get_elem?}
 use Rattle.compare.specs.declared.InternalDefaultDS.{InternalDefaultDS}
 use Rattle.compare.specs.Dataset.{compare_of, ranks_above}
 use Rattle.choice.specs.declared.BestAnnounceMessage.{BestAnnounceMessage}
 use Rattle.choice.specs.declared.Candidate.{Candidate}
-use Rattle.choice.specs.declared.Best.{Best}
-use Rattle.choice.specs.declared.Best.TheVariants as best
 use Rattle.choice.specs.Choice.{choose}
-use Rattle.choice.specs.Candidate.{dataset_of, ranking, stays, itself, whole, stays_by, winner, ebest, single, best_of}
+use Rattle.choice.specs.Candidate.{dataset_of, ranking, stays, itself, whole, stays_by, winner, ebest, single}
 use Rattle.agreement.specs.Agreement.{Agreeing}
-use Rattle.choice.proofs.Chosen.{map_option, choose-map, all_in, all-at, all_map}
+use Rattle.choice.proofs.Chosen.{choose-map, all_in, all-at, all_map}
 use Rattle.agreement.proofs.Winner.{winner_in, winner-shown, none_above}
 use Rattle.states.specs.Ports.{ebest_of}
 use Rattle.slot.specs.declared.ForeignAnnounceMessage.{ForeignAnnounceMessage}
@@ -32,8 +28,7 @@ use Rattle.book.specs.Layout.{book_of, reads}
 use Rattle.book.specs.Rules.{store_refusal}
 use Rattle.book.proofs.Rules.{checked}
 use Rattle.book.proofs.View.{sound_view}
-use Rattle.candidates.specs.declared.CandidateRead.TheVariants.{Found}
-use Rattle.candidates.specs.Candidates.{numbered, standing, placed, offered_in, laid, read_of, candidate_answer}
+use Rattle.candidates.specs.Candidates.{numbered, standing, placed, offered_in, laid, candidate_answer}
 use Rattle.candidates.proofs.Steps.{placed-nth, answer-done}
 
 -- ---- elements and their places
@@ -49,20 +44,20 @@ module _ {A : Type 0} where
   numbered_in n (x ∷ xs) o (Memᴰ.tail m) = Memᴰ.tail (numbered_in (suc n) xs o m)
 
   -- each stands at its place
-  numbered-at : (n : ℕ) (xs : List A) (o : ℕ × A) → Memᴰ o (numbered n xs) → (n ≤ o.0) × (get_elem? xs (o.0 - n) ≡ some o.1)
+  numbered-at : (n : ℕ) (xs : List A) (o : ℕ × A) → Memᴰ o (numbered n xs) → (n ≤ o.0) × (slice_get xs (o.0 - n) ≡ Some o.1)
   numbered-at n [] o m = elim m [ ]
   numbered-at n (x ∷ xs) o (Memᴰ.head e) =
       let p : o.0 ≡ n = ap (λ (p : ℕ × A). p.0) e in
       let z : o.0 - n ≡ 0 = omega arith in
-      (omega arith, ap (get_elem? (x ∷ xs)) z ∙ ap some (sym (ap (λ (p : ℕ × A). p.1) e)))
+      (omega arith, ap (slice_get (x ∷ xs)) z ∙ ap Some (sym (ap (λ (p : ℕ × A). p.1) e)))
   numbered-at n (x ∷ xs) o (Memᴰ.tail m) =
       let r = numbered-at (suc n) xs o m in
       let z : o.0 - n ≡ suc (o.0 - suc n) = omega (arith, r.0) in
-      (omega (arith, r.0), ap (get_elem? (x ∷ xs)) z ∙ r.1)
+      (omega (arith, r.0), ap (slice_get (x ∷ xs)) z ∙ r.1)
 
-map-some : {A B : Type 0} (f : A → B) (o : Option A) (b : B) → map_option f o ≡ some b → (a : A) × (o ≡ some a) × (f a ≡ b)
-map-some f none b e = absurd (none-ne-some b e)
-map-some f (some a) b e = (a, refl, some-injective (f a) b e)
+map-some : {A B : Type 0} (f : A → B) (o : Option A) (b : B) → option_map f o ≡ Some b → (a : A) × (o ≡ Some a) × (f a ≡ b)
+map-some f None b e = cc
+map-some f (Some a) b e = (a, refl, cc)
 
 -- ---- the choice over a list of messages with their places, which it does not read
 
@@ -85,44 +80,44 @@ unplaced c =
     }
 
 module _ (bs : List BestAnnounceMessage) where
-  placed-winner : winner itself (placed bs) ≡ map_option standing (winner standing (numbered 0 bs))
+  placed-winner : winner itself (placed bs) ≡ option_map standing (winner standing (numbered 0 bs))
   unfolding placed
   placed-winner = winner-shown standing (numbered 0 bs)
 
-  whole-winner : winner whole bs ≡ map_option (λ (o : ℕ × BestAnnounceMessage). o.1) (winner standing (numbered 0 bs))
+  whole-winner : winner whole bs ≡ option_map (λ (o : ℕ × BestAnnounceMessage). o.1) (winner standing (numbered 0 bs))
   unfolding winner stays ranking
   whole-winner =
       ap (choose (stays_by whole)) (sym (numbered-map 0 bs)) ∙ choose-map (λ (o : ℕ × BestAnnounceMessage). o.1) (stays_by whole) (numbered 0 bs)
 
   -- with the place forgotten it is the choice of the messages,
-  unplaced-winner : map_option unplaced (winner itself (placed bs)) ≡ map_option whole (winner whole bs)
-  unplaced-winner = ap (map_option unplaced) placed-winner ∙ same (winner standing (numbered 0 bs)) ∙ sym (ap (map_option whole) whole-winner)
+  unplaced-winner : option_map unplaced (winner itself (placed bs)) ≡ option_map whole (winner whole bs)
+  unplaced-winner = ap (option_map unplaced) placed-winner ∙ same (winner standing (numbered 0 bs)) ∙ sym (ap (option_map whole) whole-winner)
     where
-      same : (w : Option (ℕ × BestAnnounceMessage)) → map_option unplaced (map_option standing w) ≡ map_option whole (map_option (λ (o : ℕ × BestAnnounceMessage). o.1) w)
-      same none = refl
-      same (some o) = refl
+      same : (w : Option (ℕ × BestAnnounceMessage)) → option_map unplaced (option_map standing w) ≡ option_map whole (option_map (λ (o : ℕ × BestAnnounceMessage). o.1) w)
+      same None = refl
+      same (Some o) = refl
 
   -- the one chosen stands at its place in the list,
-  chosen_at : (c : Candidate) → winner itself (placed bs) ≡ some c → get_elem? (placed bs) c.place ≡ some c
+  chosen_at : (c : Candidate) → winner itself (placed bs) ≡ Some c → slice_get (placed bs) c.place ≡ Some c
   chosen_at c e =
       let w = map-some standing (winner standing (numbered 0 bs)) c (sym placed-winner ∙ e) in
       let at = (numbered-at 0 bs w.0 (winner_in standing (numbered 0 bs) w.0 w.1)).1 in
       let k : c.place ≡ w.0.0 = ap (λ (d : Candidate). d.place) (sym w.2) in
-      ap (get_elem? (placed bs)) k
+      ap (slice_get (placed bs)) k
       ∙ placed-nth w.0.0 bs
-      ∙ ap (map_option (λ b. standing (w.0.0, b))) (ap (get_elem? bs) (sym (sub-zero w.0.0)) ∙ at)
-      ∙ ap some w.2
+      ∙ ap (option_map (λ b. standing (w.0.0, b))) (ap (slice_get bs) (sym (sub-zero w.0.0)) ∙ at)
+      ∙ ap Some w.2
 
   -- as does the message,
-  message-at : (c : Candidate) → winner itself (placed bs) ≡ some c → get_elem? bs c.place ≡ winner whole bs
+  message-at : (c : Candidate) → winner itself (placed bs) ≡ Some c → slice_get bs c.place ≡ winner whole bs
   message-at c e =
       let w = map-some standing (winner standing (numbered 0 bs)) c (sym placed-winner ∙ e) in
       let at = (numbered-at 0 bs w.0 (winner_in standing (numbered 0 bs) w.0 w.1)).1 in
       let k : c.place ≡ w.0.0 = ap (λ (d : Candidate). d.place) (sym w.2) in
-      ap (get_elem? bs) (k ∙ sym (sub-zero w.0.0)) ∙ at ∙ sym (whole-winner ∙ ap (map_option (λ (o : ℕ × BestAnnounceMessage). o.1)) w.1)
+      ap (slice_get bs) (k ∙ sym (sub-zero w.0.0)) ∙ at ∙ sym (whole-winner ∙ ap (option_map (λ (o : ℕ × BestAnnounceMessage). o.1)) w.1)
 
   -- and under the agreement none of the list ranks above it.
-  chosen-none-above : Agreeing whole bs → (c : Candidate) → winner itself (placed bs) ≡ some c
+  chosen-none-above : Agreeing whole bs → (c : Candidate) → winner itself (placed bs) ≡ Some c
       → (d : Candidate) → Memᴰ d (placed bs) → ranks_above (compare_of (dataset_of d) (dataset_of c)) ≡ false
   unfolding placed
   chosen-none-above a c e d m =
@@ -142,26 +137,14 @@ module _ (bs : List BestAnnounceMessage) where
 
 -- ---- the calls
 
--- the candidate that `find_best` answers
-abbrev pub chosen_of : Best → Option Candidate
-chosen_of best.Nothing = none
-chosen_of (best.Found c) = some c
-
-chosen-best : (o : Option Candidate) → chosen_of (best_of o) ≡ o
-chosen-best none = refl
-chosen-best (some c) = refl
-
 -- what `find_best` answers over the list that a caller lays
-abbrev pub found_once : List ℕ → Best
-found_once s = best_of (winner itself (laid s))
-
-once-winner : (s : List ℕ) (c : Candidate) → found_once s ≡ best.Found c → winner itself (laid s) ≡ some c
-once-winner s c e = sym (chosen-best (winner itself (laid s))) ∙ ap chosen_of e
+abbrev pub found_once : List ℕ → Option Candidate
+found_once s = winner itself (laid s)
 
 module _ (s : List ℕ) (checks : store_refusal s ≡ 0) where
   -- The one chosen is the candidate that the call answers for its place.
-  pub once-asked : (c : Candidate) → found_once s ≡ best.Found c → candidate_answer s c.place ≡ Found c
-  once-asked c e = sym (answer-done s c.place checks) ∙ ap read_of (chosen_at (offered_in s) c (once-winner s c e))
+  pub once-asked : (c : Candidate) → found_once s ≡ Some c → candidate_answer s c.place ≡ Ok (Some c)
+  once-asked c e = sym (answer-done s c.place checks) ∙ ap Ok (chosen_at (offered_in s) c e)
 
   module _ (agreed : Agreed reads (book_of s)) where
     sound : sound_book reads (book_of s) ≡ true
@@ -172,19 +155,19 @@ module _ (s : List ℕ) (checks : store_refusal s ≡ 0) where
     once-single = single-ebest reads (book_of s) sound agreed
 
     -- With its place forgotten it is the candidate of Ebest, or there is neither:
-    pub once-ebest : map_option unplaced (chosen_of (found_once s)) ≡ map_option whole (ebest whole (candidates_of reads (book_of s)))
-    once-ebest = ap (map_option unplaced) (chosen-best (winner itself (laid s))) ∙ unplaced-winner (offered_in s) ∙ ap (map_option whole) once-single
+    pub once-ebest : option_map unplaced (found_once s) ≡ option_map whole (ebest whole (candidates_of reads (book_of s)))
+    once-ebest = unplaced-winner (offered_in s) ∙ ap (option_map whole) once-single
 
     -- of Ebest of the decision by ports.
     pub once-decided : (own : InternalDefaultDS) (listening : ℕ)
-        → map_option unplaced (chosen_of (found_once s)) ≡ map_option whole (ebest_of (map (λ (T : Turn ForeignAnnounceMessage). T.best) (turns reads (decide own listening) (book_of s))))
-    once-decided own listening = once-ebest ∙ ap (map_option whole) (sym (ebest-winner reads own listening (book_of s)))
+        → option_map unplaced (found_once s) ≡ option_map whole (ebest_of (map (λ (T : Turn ForeignAnnounceMessage). T.best) (turns reads (decide own listening) (book_of s))))
+    once-decided own listening = once-ebest ∙ ap (option_map whole) (sym (ebest-winner reads own listening (book_of s)))
 
     -- Ebest itself is the message that stands at its place.
-    pub once-message : (c : Candidate) → found_once s ≡ best.Found c → get_elem? (offered_in s) c.place ≡ ebest whole (candidates_of reads (book_of s))
-    once-message c e = message-at (offered_in s) c (once-winner s c e) ∙ once-single
+    pub once-message : (c : Candidate) → found_once s ≡ Some c → slice_get (offered_in s) c.place ≡ ebest whole (candidates_of reads (book_of s))
+    once-message c e = message-at (offered_in s) c e ∙ once-single
 
     -- None of the list ranks above it.
-    pub once-none-above : (c : Candidate) → found_once s ≡ best.Found c
+    pub once-none-above : (c : Candidate) → found_once s ≡ Some c
         → (d : Candidate) → Memᴰ d (laid s) → ranks_above (compare_of (dataset_of d) (dataset_of c)) ≡ false
-    once-none-above c e = chosen-none-above (offered_in s) (agreeing reads (book_of s) sound agreed) c (once-winner s c e)
+    once-none-above c e = chosen-none-above (offered_in s) (agreeing reads (book_of s) sound agreed) c e

@@ -1,28 +1,28 @@
 -- The steps by which the k-th candidate of a book is found on the words of its store.
 -- Assumes nothing.
 use Prim.Native.Nat.{ℕ, zero, suc, ◌+◌, ◌-◌, ◌≤◌, ◌<◌, zero-le, suc-le-suc}
-use Rattle.std.specs.Prelude.{◌≡◌, refl, Bool, get_or}
+use Rattle.std.specs.Prelude.{◌≡◌, refl, Bool, get_or, slice_get, option_map, Some, None, Ok, Err}
 use Rattle.std.proofs.Math.Path.{sym, ap}
 use Rattle.std.proofs.Common.{◌∙◌, not-suc-le-zero, le_of_suc-le-suc, zero-add, add-zero, add-suc, suc-add, add-one, drop_of_length-le}
 use Rattle.std.proofs.Math.Bool.{true, cond}
 use mathlib.Core.List.{List, [], ◌∷◌, ◌++◌, map}
-use Rattle.std.proofs.Math.Option.{some}
 use native.Mathlib.Omega.{arith}
-use Rattle.std.proofs.Math.ListN.{length, drop, get_elem?, get_or-map, length-map, length-drop}
+use Rattle.std.proofs.Math.ListN.{length, drop, get_or-map, length-map, length-drop}
 use Rattle.std.proofs.Math.Seq.{drop-nil}
 use Rattle.wire.specs.Refusal.{on-done, on-refused}
+use Rattle.refused.specs.declared.Refusal.{Refusal}
+use Rattle.refused.specs.Refusal.{number_of, refused}
+use Rattle.refused.proofs.Laws.{number-positive, refused-number}
 use Rattle.choice.specs.declared.BestAnnounceMessage.{BestAnnounceMessage}
 use Rattle.choice.specs.Choice.{joined}
 use Rattle.choice.specs.Candidate.{candidate_of}
-use Rattle.choice.proofs.Chosen.{map_option}
 use Rattle.history.specs.Port.{receiver}
 use Rattle.history.proofs.Tests.{by}
 use Rattle.book.specs.Below.{tab, length-tab}
 use Rattle.book.specs.Layout.{identity, site_of}
 use Rattle.book.specs.Rules.{store_refusal}
 use Rattle.offers.specs.Offers.{best_at, down_from, offering}
-use Rattle.candidates.specs.declared.CandidateRead.TheVariants.{Nothing, Found, Refused}
-use Rattle.candidates.specs.Candidates.{place_of, numbered, standing, placed, offered_in, laid, read_of, candidate_answer}
+use Rattle.candidates.specs.Candidates.{place_of, numbered, standing, placed, offered_in, laid, candidate_answer}
 use Rattle.candidates.proofs.Nth.{nth-next, nth-none, get_or-next, within, beyond, drop-tab}
 use Rattle.candidates.specs.View.{port_in, offers_in}
 use Rattle.candidates.proofs.View.{candidates_view}
@@ -33,6 +33,9 @@ module _ (test : ℕ → Bool) where
   -- one or none at a place
   abbrev pub ones : ℕ → ℕ
   ones i = cond (test i) 1 0
+
+  pub ones_by : (i : ℕ) (b : Bool) → b ≡ test i → ones i ≡ cond b 1 0
+  ones_by i b e = ap (λ (t : Bool). cond {A = ℕ} t 1 0) (sym e)
 
   -- how many there are below a number: one more place, and no more than the number
   pub count-more : (i : ℕ) → length (down_from (suc i) test) ≡ length (down_from i test) + ones i
@@ -110,15 +113,15 @@ module _ (test : ℕ → Bool) where
 -- ---- the candidates of the ports, one port after the other
 
 -- the k-th of a list, as the candidate that stands there
-numbered-nth : (n k : ℕ) (bs : List BestAnnounceMessage) → get_elem? (map standing (numbered n bs)) k ≡ map_option (λ b. candidate_of b (n + k)) (get_elem? bs k)
+numbered-nth : (n k : ℕ) (bs : List BestAnnounceMessage) → slice_get (map standing (numbered n bs)) k ≡ option_map (λ b. candidate_of b (n + k)) (slice_get bs k)
 numbered-nth n k [] = refl
-numbered-nth n zero (b ∷ bs) = ap (λ (j : ℕ). some (candidate_of b j)) (sym (add-zero n))
+numbered-nth n zero (b ∷ bs) = ap (λ (j : ℕ). Some (candidate_of b j)) (sym (add-zero n))
 numbered-nth n (suc k) (b ∷ bs) =
-    numbered-nth (suc n) k bs ∙ ap (λ (j : ℕ). map_option (λ b. candidate_of b j) (get_elem? bs k)) (suc-add n k ∙ sym (add-suc n k))
+    numbered-nth (suc n) k bs ∙ ap (λ (j : ℕ). option_map (λ b. candidate_of b j) (slice_get bs k)) (suc-add n k ∙ sym (add-suc n k))
 
-pub placed-nth : (k : ℕ) (bs : List BestAnnounceMessage) → get_elem? (placed bs) k ≡ map_option (λ b. candidate_of b k) (get_elem? bs k)
+pub placed-nth : (k : ℕ) (bs : List BestAnnounceMessage) → slice_get (placed bs) k ≡ option_map (λ b. candidate_of b k) (slice_get bs k)
 unfolding placed
-placed-nth k bs = numbered-nth 0 k bs ∙ ap (λ (j : ℕ). map_option (λ b. candidate_of b j) (get_elem? bs k)) (zero-add k)
+placed-nth k bs = numbered-nth 0 k bs ∙ ap (λ (j : ℕ). option_map (λ b. candidate_of b j) (slice_get bs k)) (zero-add k)
 
 -- the port that receives, by the words of the head
 pub receiver-word : (s : List ℕ) (k : ℕ) → identity (get_or s 1 0) k ≡ receiver (site_of s) k
@@ -154,35 +157,33 @@ module _ (s : List ℕ) (k : ℕ) where
 
     -- or the k-th candidate is one of its own,
     pub left-found : q < get_or s 0 0 → left < length (offering (port_in s q))
-        → Found (candidate_of (best_at (receiver (site_of s) (q + 1)) (port_in s q) (place_of (port_in s q) left)) k) ≡ read_of (get_elem? (laid s) k)
+        → Some (candidate_of (best_at (receiver (site_of s) (q + 1)) (port_in s q) (place_of (port_in s q) left)) k) ≡ slice_get (laid s) k
     left-found h l =
         let r = receiver (site_of s) (q + 1) in
         let p = port_in s q in
         let f : ℕ → BestAnnounceMessage = best_at r p in
         let n : length (offers_in s q) ≡ length (offering p) = length-map (offering p) f in
-        let here : get_elem? (offered_in s) k ≡ some (get_or (offers_in s q) left (f 0)) =
+        let here : slice_get (offered_in s) k ≡ Some (get_or (offers_in s q) left (f 0)) =
         nth-next (offered_in s) k (get_or (offers_in s q) left (f 0)) _ (sym (port-first h) ∙ within (offers_in s q) rest left (f 0) (omega arith)) in
-        sym
-        (ap read_of
-        (placed-nth k (offered_in s) ∙ ap (map_option (λ b. candidate_of b k)) (here ∙ ap some (get_or-map f (offering p) left 0))))
+        sym (placed-nth k (offered_in s) ∙ ap (option_map (λ b. candidate_of b k)) (here ∙ ap Some (get_or-map f (offering p) left 0)))
 
     -- or there is none.
-    pub left-none : get_or s 0 0 ≤ q → Nothing ≡ read_of (get_elem? (laid s) k)
+    pub left-none : get_or s 0 0 ≤ q → None ≡ slice_get (laid s) k
     left-none h =
         let none_left : drop k (offered_in s) ≡ [] =
         sym inv
         ∙ ap (λ (bss : List (List BestAnnounceMessage)). drop left (joined bss)) (drop_of_length-le (tab (get_or s 0 0) (offers_in s)) {i = q} (omega (arith, length-tab (get_or s 0 0) (offers_in s))))
         ∙ drop-nil left in
-        sym (ap read_of (placed-nth k (offered_in s) ∙ ap (map_option (λ b. candidate_of b k)) (nth-none (offered_in s) k none_left)))
+        sym (placed-nth k (offered_in s) ∙ ap (option_map (λ b. candidate_of b k)) (nth-none (offered_in s) k none_left))
 
 -- ---- the answers
 
 -- the answers of the call: where the store is refused, and where it is not
-pub answer-refused : (s : List ℕ) (k n : ℕ) → n ≡ store_refusal s → (n ≡ 0 → ⊥) → Refused n ≡ candidate_answer s k
+pub answer-refused : (s : List ℕ) (k : ℕ) (e : Refusal) → number_of e ≡ store_refusal s → Err e ≡ candidate_answer s k
 unfolding candidate_answer
-answer-refused s k n e ne =
-    ap Refused e ∙ sym (on-refused (store_refusal s) (read_of (get_elem? (laid s) k)) Refused (λ z. ne (e ∙ z)))
+answer-refused s k e h =
+    refused-number e ∙ rw (← h) (sym (on-refused (number_of e) (Ok (slice_get (laid s) k)) refused (λ z. omega (arith, number-positive e))))
 
-pub answer-done : (s : List ℕ) (k : ℕ) → store_refusal s ≡ 0 → read_of (get_elem? (laid s) k) ≡ candidate_answer s k
+pub answer-done : (s : List ℕ) (k : ℕ) → store_refusal s ≡ 0 → Ok (slice_get (laid s) k) ≡ candidate_answer s k
 unfolding candidate_answer
-answer-done s k e = sym (on-done (store_refusal s) (read_of (get_elem? (laid s) k)) Refused e)
+answer-done s k e = sym (on-done (store_refusal s) (Ok (slice_get (laid s) k)) refused e)

@@ -1,9 +1,9 @@
 -- The candidates of a book in the order of paper 01, and what the call answers.
 -- Assumes nothing.
-use Rattle.std.specs.Prelude.{ℕ, suc, cond, List, [], ◌∷◌, map, get_or}
-use Rattle.std.proofs.Math.Option.{Option, none, some}
-use Rattle.std.proofs.Math.ListN.{get_elem?}
+use Rattle.std.specs.Prelude.{ℕ, suc, List, [], ◌∷◌, map, get_or, slice_get, Option, None, Result, Ok, Err}
 use Rattle.wire.specs.Refusal.{on_zero}
+use Rattle.refused.specs.declared.Refusal.{Refusal}
+use Rattle.refused.specs.Refusal.{number_of, refused}
 use Rattle.choice.specs.declared.BestAnnounceMessage.{BestAnnounceMessage}
 use Rattle.choice.specs.declared.Candidate.{Candidate}
 use Rattle.choice.specs.Choice.{joined}
@@ -11,15 +11,9 @@ use Rattle.choice.specs.Candidate.{candidate_of}
 use Rattle.histories.specs.History.{candidates_of}
 use Rattle.book.specs.Layout.{book_of, reads}
 use Rattle.book.specs.Rules.{store_refusal}
-use Rattle.offers.specs.Offers.{offers_at, offering}
-use Rattle.candidates.specs.declared.CandidateRead.{CandidateRead}
-use Rattle.candidates.specs.declared.CandidateRead.TheVariants.{Nothing, Found, Refused}
+use Rattle.offers.specs.Offers.{offering}
 
 -- ---- one port, on its words
-
--- how many messages master i offers: one or none
-abbrev pub offers_of : List ℕ → ℕ → ℕ
-offers_of p i = cond (offers_at p i) 1 0
 
 -- the place of the k-th master that offers a message, k from 0, the last master first
 abbrev pub place_of : List ℕ → ℕ → ℕ
@@ -51,15 +45,10 @@ laid s = placed (offered_in s)
 -- ---- the call
 
 -- paper 01's number of each answer, 0 for done, and the candidate that it holds
-abbrev pub answer_of : CandidateRead → ℕ × Option Candidate
-answer_of Nothing = (0, none)
-answer_of (Found c) = (0, some c)
-answer_of (Refused n) = (n, none)
-
-abbrev pub read_of : Option Candidate → CandidateRead
-read_of none = Nothing
-read_of (some c) = Found c
+abbrev pub answer_of : Result (Option Candidate) Refusal → ℕ × Option Candidate
+answer_of (Ok o) = (0, o)
+answer_of (Err e) = (number_of e, None)
 
 -- 1 and 16 come first, then the k-th candidate of the book, if there is one
-unfoldable pub candidate_answer : List ℕ → ℕ → CandidateRead
-candidate_answer s k = on_zero (store_refusal s) (read_of (get_elem? (laid s) k)) Refused
+unfoldable pub candidate_answer : List ℕ → ℕ → Result (Option Candidate) Refusal
+candidate_answer s k = on_zero (store_refusal s) (Ok (slice_get (laid s) k)) refused

@@ -1,11 +1,10 @@
 -- Laws of a choice left to right, over any test.
 -- Assumes nothing.
-use Rattle.std.specs.Prelude.{◌≡◌, Bool, cond, ◌+◌}
+use Rattle.std.specs.Prelude.{◌≡◌, Bool, cond, Option, Some, None, option_map}
 use Rattle.std.proofs.Math.Path.{refl, ap}
 use Rattle.std.proofs.Common.{sym, ap₂, subst, ◌∙◌}
 use Rattle.std.proofs.Math.Bool.{true, false}
 use mathlib.Core.List.{List, [], ◌∷◌, ◌++◌, map, Memᴰ}
-use Rattle.std.proofs.Math.Option.{Option, none, some}
 use Rattle.choice.specs.Choice.{keep, from, choose, joined, present, All, AllOf}
 
 pub all_in : {A : Type 0} {P : A → Type 0} (xs : List A) → ((x : A) → Memᴰ x xs → P x) → All P xs
@@ -65,7 +64,7 @@ module _ {A : Type 0} {above : A → A → Bool} (w : Weak above) where
   unfolding from choose
   choose-joined [] = refl
   choose-joined ([] ∷ xss) = choose-joined xss
-  choose-joined ((x ∷ xs) ∷ xss) = ap some (from-append above x xs (joined xss) ∙ from-joined (from above x xs) xss)
+  choose-joined ((x ∷ xs) ∷ xss) = ap Some (from-append above x xs (joined xss) ∙ from-joined (from above x xs) xss)
 
   -- nothing is above the one chosen
   above-false : (a b c : A) → above (keep above a b) c ≡ false → (above a c ≡ false) × (above b c ≡ false)
@@ -117,7 +116,7 @@ module _ {A : Type 0} {P : A → Type 0} {f g : A → A → Bool} (agree : (a b 
   pub choose-agree : (xs : List A) → All P xs → choose f xs ≡ choose g xs
   unfolding choose
   choose-agree [] ps = refl
-  choose-agree (x ∷ xs) ps = ap some (from-agree x xs ps.0 ps.1)
+  choose-agree (x ∷ xs) ps = ap Some (from-agree x xs ps.0 ps.1)
 
 -- of several lists: what holds of each element of all of them
 pub all_append : {A : Type 0} (P : A → Type 0) (xs ys : List A) → All P (xs ++ ys) → All P xs × All P ys
@@ -130,8 +129,8 @@ all-joined P (xs ∷ xss) ps = let r = all_append P xs (joined xss) ps in (r.0, 
 
 pub all-present : {A : Type 0} (P : A → Type 0) (os : List (Option A)) → All (AllOf P) os → All P (present os)
 all-present P [] ps = tt
-all-present P (none ∷ os) ps = all-present P os ps.1
-all-present P (some x ∷ os) ps = (ps.0, all-present P os ps.1)
+all-present P (None ∷ os) ps = all-present P os ps.1
+all-present P (Some x ∷ os) ps = (ps.0, all-present P os ps.1)
 
 pub all_map : {A B : Type 0} (P : A → Type 0) (Q : B → Type 0) (f : A → B) → ((a : A) → P a → Q (f a)) → (xs : List A) → All P xs → All Q (map f xs)
 all_map P Q f imp [] ps = tt
@@ -154,10 +153,6 @@ module _ {A : Type 0} {P : A → Type 0} {f g : A → A → Bool} (agree : (a b 
       each = all-joined P xss ps
 
 -- A choice by what each element shows is the choice among what they show.
-abbrev pub map_option : {A B : Type 0} → (A → B) → Option A → Option B
-map_option f none = none
-map_option f (some x) = some (f x)
-
 module _ {A B : Type 0} (f : A → B) (above : B → B → Bool) where
   keep-map : (t : Bool) (a b : A) → cond t (f a) (f b) ≡ f (cond t a b)
   keep-map true a b = refl
@@ -168,10 +163,10 @@ module _ {A B : Type 0} (f : A → B) (above : B → B → Bool) where
   from-map h [] = refl
   from-map h (x ∷ xs) = ap (λ y. from above y (map f xs)) (keep-map (above (f h) (f x)) h x) ∙ from-map (keep (λ a b. above (f a) (f b)) h x) xs
 
-  pub choose-map : (xs : List A) → choose above (map f xs) ≡ map_option f (choose (λ a b. above (f a) (f b)) xs)
+  pub choose-map : (xs : List A) → choose above (map f xs) ≡ option_map f (choose (λ a b. above (f a) (f b)) xs)
   unfolding choose
   choose-map [] = refl
-  choose-map (x ∷ xs) = ap some (from-map x xs)
+  choose-map (x ∷ xs) = ap Some (from-map x xs)
 
 -- Where the one chosen stands: it is above each that comes after it, so of equals it is the last.
 module _ {A : Type 0} (above : A → A → Bool) where

@@ -1,15 +1,12 @@
 -- The crate's order of candidates, and the winners: of one list, of each port (Erbest), among those (Ebest), and once over all.
 -- Assumes nothing.
-use Rattle.std.specs.Prelude.{Bool, List, [], ◌∷◌, map, ℕ}
-use Rattle.std.proofs.Math.Option.{Option, none, some}
+use Rattle.std.specs.Prelude.{Bool, List, [], ◌∷◌, map, ℕ, Option, Some, None}
 use Rattle.compare.specs.declared.ComparisonDataset.{ComparisonDataset}
-use Rattle.order.specs.declared.Ordering.{Ordering}
+use Rattle.std.specs.declared.cmp.Ordering.{Ordering}
 use Rattle.order.specs.Order.{cmp, then_by, is_greater}
 use Rattle.compare.specs.Dataset.{compare_of, as_ordering}
 use Rattle.choice.specs.declared.BestAnnounceMessage.{BestAnnounceMessage}
 use Rattle.choice.specs.declared.Candidate.{Candidate}
-use Rattle.choice.specs.declared.Best.{Best}
-use Rattle.choice.specs.declared.Best.TheVariants.{Nothing, Found}
 use Rattle.choice.specs.Choice.{keep, choose, joined, present}
 
 -- the candidate of a whole message
@@ -82,17 +79,12 @@ module _ {A : Type 0} (shown : A → Candidate) where
   unfoldable pub single : List (List A) → Option A
   single ports = winner (joined ports)
 
--- the answer of a choice: nothing, or the one chosen
-abbrev pub best_of : Option Candidate → Best
-best_of none = Nothing
-best_of (some c) = Found c
-
--- one step, from what is held
-abbrev pub keep_best : Best → Candidate → Best
-keep_best Nothing next = Found next
-keep_best (Found held) next = Found (keep stays held next)
+-- one step, from the one held, if there is one
+abbrev pub keep_best : Option Candidate → Candidate → Option Candidate
+keep_best None next = Some next
+keep_best (Some held) next = Some (keep stays held next)
 
 -- all steps
-abbrev pub keep_all : Best → List Candidate → Best
+abbrev pub keep_all : Option Candidate → List Candidate → Option Candidate
 keep_all held [] = held
 keep_all held (x ∷ xs) = keep_all (keep_best held x) xs

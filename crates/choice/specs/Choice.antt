@@ -1,7 +1,6 @@
 -- A choice left to right by any test, over one list and over lists of lists.
 -- Assumes nothing.
-use Rattle.std.specs.Prelude.{Bool, cond, List, [], ◌∷◌, ◌++◌}
-use Rattle.std.proofs.Math.Option.{Option, none, some}
+use Rattle.std.specs.Prelude.{Bool, cond, List, [], ◌∷◌, ◌++◌, Option, Some, None}
 
 -- the one held stays only if it is above the next
 module _ {A : Type 0} (above : A → A → Bool) where
@@ -13,8 +12,8 @@ module _ {A : Type 0} (above : A → A → Bool) where
   from held (x ∷ xs) = from (keep held x) xs
 
   unfoldable pub choose : List A → Option A
-  choose [] = none
-  choose (x ∷ xs) = some (from x xs)
+  choose [] = None
+  choose (x ∷ xs) = Some (from x xs)
 
 -- the lists one after the other
 abbrev pub joined : {A : Type 0} → List (List A) → List A
@@ -24,8 +23,8 @@ joined (xs ∷ xss) = xs ++ joined xss
 -- those that are there
 abbrev pub present : {A : Type 0} → List (Option A) → List A
 present [] = []
-present (none ∷ os) = present os
-present (some x ∷ os) = x ∷ present os
+present (None ∷ os) = present os
+present (Some x ∷ os) = x ∷ present os
 
 -- what holds of each element
 abbrev pub All : {A : Type 0} (P : A → Type 0) → List A → Type 0
@@ -34,5 +33,5 @@ All P (x ∷ xs) = P x × All P xs
 
 -- what holds of the one that is there
 abbrev pub AllOf : {A : Type 0} (P : A → Type 0) → Option A → Type 0
-AllOf P none = Unit
-AllOf P (some x) = P x
+AllOf P None = Unit
+AllOf P (Some x) = P x

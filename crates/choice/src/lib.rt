@@ -8,7 +8,7 @@ ghost use Rattle.choice.specs.Candidate.{candidate_of, dataset_of, ranking, stay
 use announce::{AnnounceMessage, ClockQuality};
 use compare::{ComparisonDataset, DatasetOrdering};
 use header::PortIdentity;
-use order::Ordering;
+use std::cmp::Ordering;
 
 // An offered message, with its age and the port that received it. The message holds its header.
 #[derive(Clone, Copy)]
@@ -35,13 +35,6 @@ pub struct Candidate {
     pub receiver_clock: u64,
     pub age: u64,
     pub place: u64,
-}
-
-// The one chosen, if there is a candidate.
-#[derive(Clone, Copy)]
-pub enum Best {
-    Nothing,
-    Found(Candidate),
 }
 
 impl BestAnnounceMessage {
@@ -101,7 +94,7 @@ impl Candidate {
     pub fn compare(self, other: Candidate) -> Ordering
         ensures { result ≡ ranking self other }
     {
-        let tie_break = order::cmp(other.age, self.age);
+        let tie_break = other.age.cmp(&self.age);
         self.compare_dataset(other).as_ordering().then(tie_break)
     }
 
@@ -109,24 +102,17 @@ impl Candidate {
     pub fn stays(self, next: Candidate) -> bool
         ensures { result ≡ stays self next }
     {
-        self.compare(next).is_greater()
+        self.compare(next).is_gt()
     }
 }
 
-impl Best {
-    // One step of the choice.
-    pub fn keep(self, next: Candidate) -> Best
-        ensures { result ≡ keep_best self next }
-    {
-        match self {
-            Best::Nothing => Best::Found(next),
-            Best::Found(held) => {
-                if held.stays(next) {
-                    Best::Found(held)
-                } else {
-                    Best::Found(next)
-                }
-            }
-        }
+// One step of the choice, from the one held, if there is one.
+pub fn keep(held: Option<Candidate>, next: Candidate) -> Option<Candidate>
+    ensures { result ≡ keep_best held next }
+{
+    match held {
+        None => Some(next),
+        Some(first) if first.stays(next) => held,
+        Some(_) => Some(next),
     }
 }

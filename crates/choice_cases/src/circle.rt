@@ -1,8 +1,7 @@
 // The circle of a, b and c: a of X, priority 1 of 1, steps 3; b of Y, priority 1 of 2; c of X, priority 1 of 3, steps 1.
 use crate::sides;
-use choice::{Best, Candidate};
+use choice::{BestAnnounceMessage, Candidate};
 use compare::DatasetOrdering;
-use decision::BestMessage;
 
 fn made(priority: u8, grandmaster: u64, steps: u16, port: u16, place: u64) -> Candidate {
     Candidate {
@@ -17,7 +16,7 @@ fn made(priority: u8, grandmaster: u64, steps: u16, port: u16, place: u64) -> Ca
         sender: 0x0004_8BFF_FE00_0020 + priority as u64,
         receiver_clock: 0x0080_63FF_FE00_000A,
         age: 1000,
-        place: place,
+        place,
     }
 }
 
@@ -40,74 +39,50 @@ pub fn three(x: Candidate, y: Candidate, z: Candidate) -> [Candidate; 96] {
 
 // Whether the first n of a list give this record.
 pub fn gives(list: [Candidate; 96], n: usize, want: Candidate) -> bool {
-    match find_best::best_of(list, n) {
-        Best::Nothing => false,
-        Best::Found(c) => sides::same(c, want),
-    }
+    find_best::best_of(list, n).is_some_and(|c| sides::same(c, want))
 }
 
 // Left, right, and B or W as the verdict.
-const VERDICTS: [u8; 18] = *b"\
-    caB\
-    abB\
-    bcB\
-    acW\
-    baW\
-    cbW";
+const VERDICTS: [[u8; 3]; 6] = [*b"caB", *b"abB", *b"bcB", *b"acW", *b"baW", *b"cbW"];
 
 fn beats(row: u64) -> bool {
-    let i = (row % 6 * 3) as usize;
-    let left = of(VERDICTS[i]);
-    let right = of(VERDICTS[i + 1]);
-    if VERDICTS[i + 2] == b'B' {
-        return sides::verdict(left, right, DatasetOrdering::Better);
-    }
-    sides::verdict(left, right, DatasetOrdering::Worse)
+    let [left, right, verdict] = VERDICTS[(row % 6) as usize];
+    let want = if verdict == b'B' {
+        DatasetOrdering::Better
+    } else {
+        DatasetOrdering::Worse
+    };
+    sides::verdict(of(left), of(right), want)
 }
 
 // Three in their order, how many are looked at, and the one chosen: port 1 by itself, port 2 by itself, the winners of both, and
 // all at once; then each other order.
-const CHOSEN: [u8; 45] = *b"\
-    acb1a\
-    cba2b\
-    abc2a\
-    acb3b\
-    abc3c\
-    bac3c\
-    bca3a\
-    cab3b\
-    cba3a";
+const CHOSEN: [[u8; 5]; 9] = [
+    *b"acb1a", *b"cba2b", *b"abc2a", *b"acb3b", *b"abc3c", *b"bac3c", *b"bca3a", *b"cab3b",
+    *b"cba3a",
+];
 
 fn chosen(row: u64) -> bool {
-    let i = (row % 9 * 5) as usize;
-    let list = three(of(CHOSEN[i]), of(CHOSEN[i + 1]), of(CHOSEN[i + 2]));
-    let n = (CHOSEN[i + 3] % 16) as usize;
-    gives(list, n, of(CHOSEN[i + 4]))
+    let [x, y, z, count, want] = CHOSEN[(row % 9) as usize];
+    gives(three(of(x), of(y), of(z)), (count % 16) as usize, of(want))
 }
 
 // The messages of ports 1 to 3, and Ebest.
-const EBESTS: [u8; 44] = *b"\
-    ab.a\
-    ba.a\
-    ac.c\
-    cb.b\
-    ca.c\
-    acbb\
-    abcc\
-    bacc\
-    bcaa\
-    cabb\
-    cbaa";
+const EBESTS: [[u8; 4]; 11] = [
+    *b"ab.a", *b"ba.a", *b"ac.c", *b"cb.b", *b"ca.c", *b"acbb", *b"abcc", *b"bacc", *b"bcaa",
+    *b"cabb", *b"cbaa",
+];
 
-fn offered(letter: u8) -> BestMessage {
+fn offered(letter: u8) -> Option<BestAnnounceMessage> {
     if letter == b'.' {
-        return BestMessage::Nothing;
+        None
+    } else {
+        Some(sides::record(of(letter)))
     }
-    BestMessage::Found(sides::record(of(letter)))
 }
 
-fn found(x: u8, y: u8, z: u8) -> BestMessage {
-    let mut erbests = [BestMessage::Nothing; 8];
+fn found(x: u8, y: u8, z: u8) -> Option<BestAnnounceMessage> {
+    let mut erbests = [None; 8];
     erbests[0] = offered(x);
     erbests[1] = offered(y);
     erbests[2] = offered(z);
@@ -115,20 +90,15 @@ fn found(x: u8, y: u8, z: u8) -> BestMessage {
 }
 
 fn ebest(row: u64) -> bool {
-    let i = (row % 11 * 4) as usize;
-    let want = of(EBESTS[i + 3]);
-    match found(EBESTS[i], EBESTS[i + 1], EBESTS[i + 2]) {
-        BestMessage::Nothing => false,
-        BestMessage::Found(b) => sides::same(b.candidate(want.place), want),
-    }
+    let [x, y, z, letter] = EBESTS[(row % 11) as usize];
+    let want = of(letter);
+    found(x, y, z).is_some_and(|b| sides::same(b.candidate(want.place), want))
 }
 
 pub fn one(n: u64) -> bool {
-    if n < 6 {
-        return beats(n);
+    match n {
+        0..=5 => beats(n),
+        6..=14 => chosen(n - 6),
+        _ => ebest(n - 15),
     }
-    if n < 15 {
-        return chosen(n - 6);
-    }
-    ebest(n - 15)
 }

@@ -1,6 +1,6 @@
 // Cases of how many of a list are looked at, and of the winner's place.
 use crate::circle;
-use choice::{Best, Candidate};
+use choice::Candidate;
 
 fn made(priority: u8, age: u64, place: u64) -> Candidate {
     Candidate {
@@ -14,8 +14,8 @@ fn made(priority: u8, age: u64, place: u64) -> Candidate {
         gm_identity: 0x0019_0FFF_FE00_0001,
         sender: 0x000E_CFFF_FE00_0003,
         receiver_clock: 0x0080_63FF_FE00_000A,
-        age: age,
-        place: place,
+        age,
+        place,
     }
 }
 
@@ -32,15 +32,13 @@ fn winner() -> Candidate {
 
 // The list, with the winner at a place.
 fn listed(at: u64) -> [Candidate; 96] {
-    let mut list = [winner(); 96];
-    for i in 0..96 {
-        list[i] = if i as u64 == at {
+    std::array::from_fn(|i| {
+        if i as u64 == at {
             winner()
         } else {
             ordinary(i as u64)
-        };
-    }
-    list
+        }
+    })
 }
 
 const COUNTS: [usize; 7] = [0, 1, 2, 95, 96, 97, usize::MAX];
@@ -48,29 +46,17 @@ const COUNTS: [usize; 7] = [0, 1, 2, 95, 96, 97, usize::MAX];
 const PLACES: [u64; 5] = [0, 1, 47, 94, 95];
 
 // The place chosen for each count and each place of the winner: w the winner, else the last looked at; none of no record.
-const CHOSEN: [u8; 35] = *b"\
-    -----\
-    w0000\
-    ww111\
-    wwww4\
-    wwwww\
-    wwwww\
-    wwwww";
-
-fn none(list: [Candidate; 96], n: usize) -> bool {
-    match find_best::best_of(list, n) {
-        Best::Nothing => true,
-        Best::Found(_) => false,
-    }
-}
+const CHOSEN: [[u8; 5]; 7] = [
+    *b"-----", *b"w0000", *b"ww111", *b"wwww4", *b"wwwww", *b"wwwww", *b"wwwww",
+];
 
 pub fn one(n: u64) -> bool {
     let i = (n / 5 % 7) as usize;
     let j = (n % 5) as usize;
     let list = listed(PLACES[j]);
     let count = COUNTS[i];
-    match CHOSEN[i * 5 + j] {
-        b'-' => none(list, count),
+    match CHOSEN[i][j] {
+        b'-' => find_best::best_of(list, count).is_none(),
         b'w' => circle::gives(list, count, winner()),
         b'0' => circle::gives(list, count, ordinary(0)),
         b'1' => circle::gives(list, count, ordinary(1)),

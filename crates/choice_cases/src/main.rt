@@ -9,19 +9,7 @@ mod sides;
 mod steps;
 mod ties;
 
-use vectors::tally::Tally;
-
-#[derive(Clone, Copy)]
-enum Group {
-    Verdict,
-    Field,
-    Accuracy,
-    Steps,
-    Mirrored,
-    Circle,
-    Tie,
-    Length,
-}
+use vectors::tally;
 
 // The cases of `every field` and then those of `steps`, with their sides swapped.
 fn mirrored(n: u64) -> bool {
@@ -31,41 +19,18 @@ fn mirrored(n: u64) -> bool {
     steps::swapped(n - fields::CASES)
 }
 
-// Whether the case of a number is right.
-fn right(group: Group, n: u64) -> bool {
-    match group {
-        Group::Verdict => sides::told(n),
-        Group::Field => fields::direct(n),
-        Group::Accuracy => fields::accuracies(n),
-        Group::Steps => steps::direct(n),
-        Group::Mirrored => mirrored(n),
-        Group::Circle => circle::one(n),
-        Group::Tie => ties::one(n),
-        Group::Length => lengths::one(n),
-    }
-}
-
-// Runs the cases of a group from 0 on, and writes its line.
-fn run(name: &[u8], group: Group, cases: u64) {
-    let mut t = Tally { cases: 0, wrong: 0 };
-    for n in 0..cases {
-        t = t.with(right(group, n));
-    }
-    t.report(name);
-}
-
 fn comparison() {
-    run(b"verdicts", Group::Verdict, 6);
-    run(b"every field", Group::Field, fields::CASES);
-    run(b"all pairs of accuracies", Group::Accuracy, 65536);
-    run(b"steps", Group::Steps, steps::CASES);
-    run(b"mirrored", Group::Mirrored, fields::CASES + steps::CASES);
+    tally::run(b"verdicts", 6, sides::told);
+    tally::run(b"every field", fields::CASES, fields::direct);
+    tally::run(b"all pairs of accuracies", 65536, fields::accuracies);
+    tally::run(b"steps", steps::CASES, steps::direct);
+    tally::run(b"mirrored", fields::CASES + steps::CASES, mirrored);
 }
 
 fn choice() {
-    run(b"a, b, c", Group::Circle, 26);
-    run(b"ties", Group::Tie, 90);
-    run(b"lengths", Group::Length, 35);
+    tally::run(b"a, b, c", 26, circle::one);
+    tally::run(b"ties", 90, ties::one);
+    tally::run(b"lengths", 35, lengths::one);
 }
 
 fn main() {

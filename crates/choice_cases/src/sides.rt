@@ -3,7 +3,7 @@ use announce::{AnnounceMessage, ClockQuality};
 use choice::{BestAnnounceMessage, Candidate};
 use compare::{ComparisonDataset, DatasetOrdering, InternalDefaultDS};
 use header::PortIdentity;
-use order::Ordering;
+use std::cmp::Ordering;
 use vectors::frames;
 
 // Two sides, and the verdict on the left one.
@@ -25,17 +25,8 @@ fn number(v: DatasetOrdering) -> u8 {
     }
 }
 
-// 0 less, 1 equal, 2 greater.
-pub fn rank(o: Ordering) -> u8 {
-    match o {
-        Ordering::Less => 0,
-        Ordering::Equal => 1,
-        Ordering::Greater => 2,
-    }
-}
-
 // The verdict on the other side.
-fn mirror(v: DatasetOrdering) -> DatasetOrdering {
+pub fn mirror(v: DatasetOrdering) -> DatasetOrdering {
     match v {
         DatasetOrdering::Better => DatasetOrdering::Worse,
         DatasetOrdering::BetterByTopology => DatasetOrdering::WorseByTopology,
@@ -47,18 +38,28 @@ fn mirror(v: DatasetOrdering) -> DatasetOrdering {
 }
 
 // What a verdict says of itself: its rank, whether it ranks above, whether it is better by topology.
-fn tells(v: DatasetOrdering, ranked: u8, above: bool, topology: bool) -> bool {
-    (rank(v.as_ordering()) == ranked) & (v.ranks_above() == above) & (v.by_topology() == topology)
+fn tells(v: DatasetOrdering, ranked: Ordering, above: bool, topology: bool) -> bool {
+    v.as_ordering() == ranked && v.ranks_above() == above && v.by_topology() == topology
 }
 
 pub fn told(n: u64) -> bool {
     match n {
-        0 => tells(DatasetOrdering::Better, 2, true, false),
-        1 => tells(DatasetOrdering::BetterByTopology, 2, true, true),
-        2 => tells(DatasetOrdering::Error1, 1, false, false),
-        3 => tells(DatasetOrdering::Error2, 1, false, false),
-        4 => tells(DatasetOrdering::WorseByTopology, 0, false, false),
-        _ => tells(DatasetOrdering::Worse, 0, false, false),
+        0 => tells(DatasetOrdering::Better, Ordering::Greater, true, false),
+        1 => tells(
+            DatasetOrdering::BetterByTopology,
+            Ordering::Greater,
+            true,
+            true,
+        ),
+        2 => tells(DatasetOrdering::Error1, Ordering::Equal, false, false),
+        3 => tells(DatasetOrdering::Error2, Ordering::Equal, false, false),
+        4 => tells(
+            DatasetOrdering::WorseByTopology,
+            Ordering::Less,
+            false,
+            false,
+        ),
+        _ => tells(DatasetOrdering::Worse, Ordering::Less, false, false),
     }
 }
 
@@ -137,54 +138,38 @@ fn by_records(a: Candidate, b: Candidate, want: DatasetOrdering) -> bool {
 
 // Whether the verdict on a is as wanted: of the candidates, of the messages, and of the records.
 pub fn verdict(a: Candidate, b: Candidate, want: DatasetOrdering) -> bool {
-    is(a.compare_dataset(b), want) & is(set(a).compare(set(b)), want) & by_records(a, b, want)
+    is(a.compare_dataset(b), want) && is(set(a).compare(set(b)), want) && by_records(a, b, want)
 }
 
 pub fn direct(c: Case) -> bool {
-    let left = c.left;
-    let right = c.right;
-    let want = c.want;
-    verdict(left, right, want)
+    verdict(c.left, c.right, c.want)
 }
 
 pub fn swapped(c: Case) -> bool {
-    let left = c.left;
-    let right = c.right;
-    let want = c.want;
-    verdict(right, left, mirror(want))
+    verdict(c.right, c.left, mirror(c.want))
 }
 
 // The same with a clock's own data on the left.
 pub fn direct_own(c: Case) -> bool {
-    let left = c.left;
-    let right = c.right;
-    let want = c.want;
-    is(own_set(left).compare(set(right)), want)
+    is(own_set(c.left).compare(set(c.right)), c.want)
 }
 
 pub fn swapped_own(c: Case) -> bool {
-    let left = c.left;
-    let right = c.right;
-    let want = c.want;
-    is(set(right).compare(own_set(left)), mirror(want))
-}
-
-fn same_grandmaster(a: Candidate, b: Candidate) -> bool {
-    (a.gm_priority_1 == b.gm_priority_1)
-        & (a.clock_class == b.clock_class)
-        & (a.clock_accuracy == b.clock_accuracy)
-        & (a.gm_priority_2 == b.gm_priority_2)
-        & (a.offset_scaled_log_variance == b.offset_scaled_log_variance)
-        & (a.gm_identity == b.gm_identity)
+    is(set(c.right).compare(own_set(c.left)), mirror(c.want))
 }
 
 // Whether all twelve fields are the same.
 pub fn same(a: Candidate, b: Candidate) -> bool {
-    same_grandmaster(a, b)
-        & (a.steps_removed == b.steps_removed)
-        & (a.receiver_port == b.receiver_port)
-        & (a.sender == b.sender)
-        & (a.receiver_clock == b.receiver_clock)
-        & (a.age == b.age)
-        & (a.place == b.place)
+    a.gm_priority_1 == b.gm_priority_1
+        && a.clock_class == b.clock_class
+        && a.clock_accuracy == b.clock_accuracy
+        && a.gm_priority_2 == b.gm_priority_2
+        && a.offset_scaled_log_variance == b.offset_scaled_log_variance
+        && a.steps_removed == b.steps_removed
+        && a.receiver_port == b.receiver_port
+        && a.gm_identity == b.gm_identity
+        && a.sender == b.sender
+        && a.receiver_clock == b.receiver_clock
+        && a.age == b.age
+        && a.place == b.place
 }

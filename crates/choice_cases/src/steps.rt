@@ -3,6 +3,7 @@ use crate::sides;
 use crate::sides::Case;
 use choice::Candidate;
 use compare::DatasetOrdering;
+use std::cmp::Ordering;
 
 // Ten by ten steps, three by three receivers, three pairs of ports, two kinds of clocks and two of qualities; then those written
 // out.
@@ -13,17 +14,18 @@ const TABLED: u64 = 10800;
 const STEPS: [u16; 10] = [0, 1, 2, 3, 4, 5, 6, 65533, 65534, 65535];
 
 // How each of these stands to each: as many, n one nearer, f one farther, B nearer by more, W farther by more.
-const STAND: [u8; 100] = *b"\
-    =nBBBBBBBB\
-    f=nBBBBBBB\
-    Wf=nBBBBBB\
-    WWf=nBBBBB\
-    WWWf=nBBBB\
-    WWWWf=nBBB\
-    WWWWWf=BBB\
-    WWWWWWW=nB\
-    WWWWWWWf=n\
-    WWWWWWWWf=";
+const STAND: [[u8; 10]; 10] = [
+    *b"=nBBBBBBBB",
+    *b"f=nBBBBBBB",
+    *b"Wf=nBBBBBB",
+    *b"WWf=nBBBBB",
+    *b"WWWf=nBBBB",
+    *b"WWWWf=nBBB",
+    *b"WWWWWf=BBB",
+    *b"WWWWWWW=nB",
+    *b"WWWWWWWf=n",
+    *b"WWWWWWWWf=",
+];
 
 // A receiver below, equal to and above its sender: one receiver with three senders, whose low halves run the other way, or one
 // sender with three receivers.
@@ -41,20 +43,12 @@ const RECEIVERS: [u64; 3] = [
 
 const CLOCK: u64 = 0x0080_63FF_FE00_000A;
 
-// The receiver of the farther one decides: that of the left side, and that of the right.
-fn left_farther(receiver: u64) -> DatasetOrdering {
+// The receiver of the farther one decides, here that of the left side.
+fn farther(receiver: u64) -> DatasetOrdering {
     match receiver {
         0 => DatasetOrdering::Worse,
         1 => DatasetOrdering::Error1,
         _ => DatasetOrdering::WorseByTopology,
-    }
-}
-
-fn right_farther(receiver: u64) -> DatasetOrdering {
-    match receiver {
-        0 => DatasetOrdering::Better,
-        1 => DatasetOrdering::Error1,
-        _ => DatasetOrdering::BetterByTopology,
     }
 }
 
@@ -69,14 +63,10 @@ fn by_port(ports: u64) -> DatasetOrdering {
 
 // As many steps, and senders by the places of the receivers: the last of the three senders is the lowest.
 fn by_senders(left: u64, right: u64, ports: u64) -> DatasetOrdering {
-    match left % 3 * 3 + right % 3 {
-        1 => DatasetOrdering::WorseByTopology,
-        2 => DatasetOrdering::WorseByTopology,
-        3 => DatasetOrdering::BetterByTopology,
-        5 => DatasetOrdering::WorseByTopology,
-        6 => DatasetOrdering::BetterByTopology,
-        7 => DatasetOrdering::BetterByTopology,
-        _ => by_port(ports),
+    match (left % 3).cmp(&(right % 3)) {
+        Ordering::Less => DatasetOrdering::WorseByTopology,
+        Ordering::Greater => DatasetOrdering::BetterByTopology,
+        Ordering::Equal => by_port(ports),
     }
 }
 
@@ -91,8 +81,8 @@ fn wanted(stand: u8, left: u64, right: u64, ports: u64, clocks: u64) -> DatasetO
     match stand {
         b'B' => DatasetOrdering::Better,
         b'W' => DatasetOrdering::Worse,
-        b'n' => right_farther(right),
-        b'f' => left_farther(left),
+        b'n' => sides::mirror(farther(right)),
+        b'f' => farther(left),
         _ => level(left, right, ports, clocks),
     }
 }
@@ -108,7 +98,7 @@ fn side(steps: u16, sender: u64, clock: u64, port: u16, quality: u8) -> Candidat
         steps_removed: steps,
         receiver_port: port,
         gm_identity: 0x001B_19FF_FE12_3456,
-        sender: sender,
+        sender,
         receiver_clock: clock,
         age: 5,
         place: 0,
@@ -123,12 +113,10 @@ fn stood(steps: u16, receiver: u64, clocks: u64, port: u16, quality: u8) -> Cand
     side(steps, CLOCK, RECEIVERS[i], port, quality)
 }
 
-fn port_of(ports: u64, right: u64) -> u16 {
-    match ports % 3 * 2 + right % 2 {
-        0 => 1,
-        1 => 2,
-        2 => 257,
-        3 => 2,
+fn port_of(ports: u64, right: bool) -> u16 {
+    match (ports % 3, right) {
+        (0, false) => 1,
+        (0, true) | (1, true) => 2,
         _ => 257,
     }
 }
@@ -141,12 +129,15 @@ fn case(n: u64) -> Case {
     let right = n / 300 % 3;
     let ports = n / 900 % 3;
     let clocks = n / 2700 % 2;
-    let here: u8 = if n / 5400 % 2 == 0 { 6 } else { 248 };
-    let there: u8 = if n / 5400 % 2 == 0 { 248 } else { 6 };
+    let (here, there) = if n / 5400 % 2 == 0 {
+        (6, 248)
+    } else {
+        (248, 6)
+    };
     Case {
-        left: stood(STEPS[i], left, clocks, port_of(ports, 0), here),
-        right: stood(STEPS[j], right, clocks, port_of(ports, 1), there),
-        want: wanted(STAND[i * 10 + j], left, right, ports, clocks),
+        left: stood(STEPS[i], left, clocks, port_of(ports, false), here),
+        right: stood(STEPS[j], right, clocks, port_of(ports, true), there),
+        want: wanted(STAND[i][j], left, right, ports, clocks),
     }
 }
 
@@ -155,7 +146,7 @@ fn near(left: u16, right: u16, want: DatasetOrdering) -> Case {
     Case {
         left: side(left, CLOCK, CLOCK, 1, 128),
         right: side(right, CLOCK, CLOCK, 2, 6),
-        want: want,
+        want,
     }
 }
 
@@ -165,11 +156,7 @@ fn of_ours(steps: u16, sender: u64, port: u16, want: DatasetOrdering) -> Case {
     let mut right = side(steps, sender, CLOCK, port, 6);
     left.gm_identity = CLOCK;
     right.gm_identity = CLOCK;
-    Case {
-        left: left,
-        right: right,
-        want: want,
-    }
+    Case { left, right, want }
 }
 
 // The lines of the paper, and our own data against messages that name us.
@@ -200,24 +187,22 @@ fn written_own(n: u64) -> Case {
     }
 }
 
-pub fn direct(n: u64) -> bool {
+// A case by its number: as candidates and messages, and by our own data in the last of those written out.
+fn check<F: Fn(Case) -> bool, G: Fn(Case) -> bool>(n: u64, is: F, is_own: G) -> bool
+    requires messages { F.IsAlwaysCallable is }
+    requires own { G.IsAlwaysCallable is_own }
+{
     if n < TABLED {
-        return sides::direct(case(n));
+        return is(case(n));
     }
     let c = written(n - TABLED);
-    if n < TABLED + 8 {
-        return sides::direct(c);
-    }
-    sides::direct(c) & sides::direct_own(c)
+    is(c) && (n < TABLED + 8 || is_own(c))
+}
+
+pub fn direct(n: u64) -> bool {
+    check(n, sides::direct, sides::direct_own)
 }
 
 pub fn swapped(n: u64) -> bool {
-    if n < TABLED {
-        return sides::swapped(case(n));
-    }
-    let c = written(n - TABLED);
-    if n < TABLED + 8 {
-        return sides::swapped(c);
-    }
-    sides::swapped(c) & sides::swapped_own(c)
+    check(n, sides::swapped, sides::swapped_own)
 }

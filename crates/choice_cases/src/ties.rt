@@ -1,15 +1,12 @@
 // Cases of a tie: the younger is chosen, and the last of those that are as old.
-use crate::{circle, sides};
+use crate::circle;
 use choice::Candidate;
+use std::cmp::Ordering;
 
 const AGES: [u64; 4] = [0, 1, 0x3FFF_FFFF_FFFF_FFFF, 0xFFFF_FFFF_FFFF_FFFF];
 
 // How the one held stands to the next by these ages: s stays, = as old, n the next is chosen.
-const STANDS: [u8; 16] = *b"\
-    =sss\
-    n=ss\
-    nn=s\
-    nnn=";
+const STANDS: [[u8; 4]; 4] = [*b"=sss", *b"n=ss", *b"nn=s", *b"nnn="];
 
 const CLOCK: u64 = 0x0080_63FF_FE00_000A;
 
@@ -23,10 +20,10 @@ fn made(steps: u16, sender: u64, age: u64, place: u64) -> Candidate {
         steps_removed: steps,
         receiver_port: 3,
         gm_identity: 0x0019_0FFF_FE00_0001,
-        sender: sender,
+        sender,
         receiver_clock: CLOCK,
-        age: age,
-        place: place,
+        age,
+        place,
     }
 }
 
@@ -49,26 +46,22 @@ fn next(kind: u64, age: u64) -> Candidate {
     }
 }
 
-// The rank of the one held: by the age where the verdict is a tie, else by the verdict.
-fn wanted(kind: u64, stand: u8) -> u8 {
-    match kind {
-        3 => 2,
-        4 => 0,
-        _ => match stand {
-            b's' => 2,
-            b'=' => 1,
-            _ => 0,
-        },
+// How the one held stands to the next: by the age where the verdict is a tie, else by the verdict.
+fn wanted(kind: u64, stand: u8) -> Ordering {
+    match (kind, stand) {
+        (3, _) => Ordering::Greater,
+        (4, _) => Ordering::Less,
+        (_, b's') => Ordering::Greater,
+        (_, b'=') => Ordering::Equal,
+        _ => Ordering::Less,
     }
 }
 
-// Whether x has this rank to y, stays exactly where it is the greater, and is then the one chosen.
-fn ranks(x: Candidate, y: Candidate, want: u8) -> bool {
-    let stays = want == 2;
+// Whether x stands so to y, stays exactly where it is the greater, and is then the one chosen.
+fn ranks(x: Candidate, y: Candidate, want: Ordering) -> bool {
+    let stays = want.is_gt();
     let best = if stays { x } else { y };
-    (sides::rank(x.compare(y)) == want)
-        & (x.stays(y) == stays)
-        & circle::gives(circle::three(x, y, x), 2, best)
+    x.compare(y) == want && x.stays(y) == stays && circle::gives(circle::three(x, y, x), 2, best)
 }
 
 fn tabled(n: u64) -> bool {
@@ -78,7 +71,7 @@ fn tabled(n: u64) -> bool {
     ranks(
         held(kind, AGES[i]),
         next(kind, AGES[j]),
-        wanted(kind, STANDS[i * 4 + j]),
+        wanted(kind, STANDS[i][j]),
     )
 }
 

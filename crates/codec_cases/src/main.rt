@@ -8,88 +8,33 @@ mod types;
 mod whole;
 mod writing;
 
-use vectors::tally::Tally;
-
-#[derive(Clone, Copy)]
-enum Group {
-    Sequence,
-    Flag,
-    NamelessFlag,
-    ZeroByte,
-    ControlByte,
-    Signed,
-    Frame,
-    Length,
-    LengthField,
-    Nibble,
-    TypeByte,
-    Version,
-    Sdo,
-    Accuracy,
-    TimeSource,
-    HeaderLimit,
-    ContentLimit,
-    Left,
-}
-
-// Whether the case of a number is right.
-fn right(group: Group, n: u64) -> bool {
-    match group {
-        Group::Sequence => reading::sequence(n),
-        Group::Flag => reading::flag(n),
-        Group::NamelessFlag => reading::nameless_flag(n),
-        Group::ZeroByte => reading::zero_byte(n),
-        Group::ControlByte => reading::control_byte(n),
-        Group::Signed => reading::signed(n),
-        Group::Frame => whole::frame(n),
-        Group::Length => lengths::length(n),
-        Group::LengthField => types::length_field(n),
-        Group::Nibble => types::nibble(n),
-        Group::TypeByte => types::byte(n),
-        Group::Version => reading::version(n),
-        Group::Sdo => reading::sdo(n),
-        Group::Accuracy => reading::accuracy(n),
-        Group::TimeSource => reading::time_source(n),
-        Group::HeaderLimit => writing::header_limit(n),
-        Group::ContentLimit => writing::content_limit(n),
-        Group::Left => writing::left(n),
-    }
-}
-
-// Runs the cases of a group from 0 on, and writes its line.
-fn run(name: &[u8], group: Group, cases: u64) {
-    let mut t = Tally { cases: 0, wrong: 0 };
-    for n in 0..cases {
-        t = t.with(right(group, n));
-    }
-    t.report(name);
-}
+use vectors::tally;
 
 fn fields() {
-    run(b"F(n), every n", Group::Sequence, 65536);
-    run(b"each flag by itself", Group::Flag, 12);
-    run(b"flag bits that have no name", Group::NamelessFlag, 32);
-    run(b"bytes 16 to 19, every value", Group::ZeroByte, 1024);
-    run(b"control, every value", Group::ControlByte, 256);
-    run(b"signed fields", Group::Signed, 11);
+    tally::run(b"F(n), every n", 65536, reading::sequence);
+    tally::run(b"each flag by itself", 12, reading::flag);
+    tally::run(b"flag bits that have no name", 32, reading::nameless_flag);
+    tally::run(b"bytes 16 to 19, every value", 1024, reading::zero_byte);
+    tally::run(b"control, every value", 256, reading::control_byte);
+    tally::run(b"signed fields", 11, reading::signed);
 }
 
 fn frames_and_types() {
-    run(b"whole frames", Group::Frame, 5);
-    run(b"lengths 0 to 70", Group::Length, 71);
-    run(b"length field, every value", Group::LengthField, 65536);
-    run(b"types of a frame", Group::Nibble, 16);
-    run(b"types of a byte", Group::TypeByte, 256);
-    run(b"versions, every value", Group::Version, 256);
+    tally::run(b"whole frames", 5, whole::frame);
+    tally::run(b"lengths 0 to 70", 71, lengths::length);
+    tally::run(b"length field, every value", 65536, types::length_field);
+    tally::run(b"types of a frame", 16, types::nibble);
+    tally::run(b"types of a byte", 256, types::byte);
+    tally::run(b"versions, every value", 256, reading::version);
 }
 
 fn values_and_limits() {
-    run(b"sdo, every value", Group::Sdo, 4096);
-    run(b"accuracy, every value", Group::Accuracy, 256);
-    run(b"time source, every value", Group::TimeSource, 256);
-    run(b"header at its limits", Group::HeaderLimit, 19);
-    run(b"content at its limits", Group::ContentLimit, 8);
-    run(b"bytes that are left, every value", Group::Left, 256);
+    tally::run(b"sdo, every value", 4096, reading::sdo);
+    tally::run(b"accuracy, every value", 256, reading::accuracy);
+    tally::run(b"time source, every value", 256, reading::time_source);
+    tally::run(b"header at its limits", 19, writing::header_limit);
+    tally::run(b"content at its limits", 8, writing::content_limit);
+    tally::run(b"bytes that are left, every value", 256, writing::left);
 }
 
 fn main() {

@@ -1,15 +1,15 @@
 // Cases of frames that are read and written again. Each function runs the case of a number.
 use header::PtpVersion;
 use vectors::frames::{F, Message};
-use vectors::{codec, frames};
+use vectors::{codec, frames, room};
 
 // F(1) with n bytes from at on as x says: read as wanted, and written again over bytes of A5 with those bytes as y says.
 pub fn changed(at: usize, n: usize, x: u64, y: u64, want: Message) -> bool {
     let mut frame = F;
     let mut back = F;
     back[46] = 0xA5;
-    put(&mut frame, at, n, x);
-    put(&mut back, at, n, y);
+    room::put(&mut frame, at, n, x);
+    room::put(&mut back, at, n, y);
     codec::round(&frame, want, 0xA5, &back)
 }
 
@@ -18,23 +18,12 @@ fn kept(at: usize, n: usize, x: u64, want: Message) -> bool {
     changed(at, n, x, x, want)
 }
 
-// Writes a number where the slice has room for it.
-fn put(s: &mut [u8], at: usize, n: usize, x: u64) {
-    if at <= s.len() {
-        if n <= s.len() - at {
-            wire::put_be(s, at, n, x);
-        }
-    }
-}
-
 // F(n).
 pub fn sequence(n: u64) -> bool {
     let mut frame = F;
-    frame[30] = (n / 256 % 256) as u8;
-    frame[31] = (n % 256) as u8;
+    wire::put_be(&mut frame, 30, 2, n);
     let want = frames::headed(frames::f_header((n % 65536) as u16));
-    let s: &[u8] = &frame;
-    codec::round(s, want, 0, s)
+    codec::round(&frame, want, 0, &frame)
 }
 
 // The twelve flags, each by itself.

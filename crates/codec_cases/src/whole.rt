@@ -2,6 +2,7 @@
 use announce::{AnnounceMessage, ClockQuality, WireTimestamp};
 use header::{Header, PortIdentity, PtpVersion};
 use message_type::MessageType;
+use refused::Refusal;
 use vectors::frames::Message;
 use vectors::up::{UP, UP_AGAIN};
 use vectors::{codec, frames, up};
@@ -15,22 +16,19 @@ fn zeros() -> bool {
 }
 
 fn zero_message() -> Message {
-    let version = PtpVersion { major: 0, minor: 0 };
-    let source = PortIdentity {
+    let mut h = frames::f_header(0);
+    h.version = PtpVersion { major: 0, minor: 0 };
+    h.source_port_identity = PortIdentity {
         clock_identity: 0,
         port_number: 0,
     };
-    let mut h = frames::f_header(0);
-    h.version = version;
-    h.source_port_identity = source;
-    let quality = ClockQuality {
+    let mut a = frames::f_content(h);
+    a.grandmaster_priority_1 = 0;
+    a.grandmaster_clock_quality = ClockQuality {
         clock_class: 0,
         clock_accuracy: 0,
         offset_scaled_log_variance: 0,
     };
-    let mut a = frames::f_content(h);
-    a.grandmaster_priority_1 = 0;
-    a.grandmaster_clock_quality = quality;
     a.grandmaster_priority_2 = 0;
     a.grandmaster_identity = 0;
     a.time_source = 0;
@@ -39,18 +37,6 @@ fn zero_message() -> Message {
         length: 0,
         content: a,
     }
-}
-
-// A frame of FF has a reserved type.
-fn ones() -> bool {
-    let frame = [0xFFu8; 64];
-    codec::refuses(&frame, 2)
-}
-
-// Fewer than 34 bytes are refused before the type is looked at.
-fn few_ones() -> bool {
-    let frame = [0xFFu8; 33];
-    codec::refuses(&frame, 1)
 }
 
 fn ones_header() -> Header {
@@ -129,12 +115,13 @@ fn up() -> bool {
     codec::round(&UP, want, 0x55, &UP_AGAIN)
 }
 
-// The whole frames: zeros, FF, too few of FF, an announce message of FF, bytes that count up.
+// The whole frames: zeros; FF, which has a reserved type; FF of too few bytes, which are refused before the type is looked at; an announce
+// message of FF; bytes that count up.
 pub fn frame(n: u64) -> bool {
     match n {
         0 => zeros(),
-        1 => ones(),
-        2 => few_ones(),
+        1 => codec::refuses(&[0xFF; 64], Refusal::ReservedType),
+        2 => codec::refuses(&[0xFF; 33], Refusal::Short),
         3 => ones_announce(),
         _ => up(),
     }

@@ -1,7 +1,7 @@
 // Cases of the writers: what they refuse, and the bytes that they leave.
-use announce::{AnnounceMessage, WireTimestamp};
-use header::{Header, PtpVersion};
+use announce::AnnounceMessage;
 use message_type::MessageType;
+use refused::Refusal;
 use vectors::frames::F;
 use vectors::{codec, frames, room};
 
@@ -53,99 +53,114 @@ const FILLED: [u8; 70] = *b"\
     \x00\x00\x20\
     \x43\x95\xE7\x39\x8B\xDD";
 
-// The header of F(1) with the sdo and the versions as told.
-fn header_of(sdo: u16, major: u8, minor: u8) -> Header {
-    let version = PtpVersion {
-        major: major,
-        minor: minor,
-    };
-    let mut h = frames::f_header(1);
-    h.sdo_id = sdo;
-    h.version = version;
-    h
+// Whether a writer refuses so and leaves every byte.
+fn refused<W: FnOnce(&mut [u8; 70]) -> Result<(), Refusal>>(write: W, why: Refusal) -> bool
+    requires { W.IsAlwaysCallable write }
+{
+    let mut target = LAY;
+    write(&mut target) == Err(why) && target == LAY
 }
 
-// Whether the writer of headers refuses with this number and leaves every byte.
-fn refused(sdo: u16, major: u8, minor: u8, content: usize, size: usize, number: u8) -> bool {
-    let h = header_of(sdo, major, minor);
+// Whether a writer takes what it is given and writes these bytes, with these six from a place on.
+fn taken<W: FnOnce(&mut [u8; 70]) -> Result<(), Refusal>>(
+    write: W,
+    bytes: [u8; 70],
+    at: usize,
+    six: u64,
+) -> bool
+    requires { W.IsAlwaysCallable write }
+{
     let mut target = LAY;
-    let answer = codec::write_header(h, MessageType::Announce, content, &mut target, size);
-    (answer == number) & room::holds(&target, &LAY, 0)
+    let mut want = bytes;
+    room::put(&mut want, at, 6, six);
+    write(&mut target).is_ok() && target == want
+}
+
+// Whether the writer of headers refuses so and leaves every byte.
+fn header_refused(
+    sdo: u16,
+    major: u8,
+    minor: u8,
+    content: usize,
+    size: usize,
+    why: Refusal,
+) -> bool {
+    let h = frames::versioned(sdo, major, minor);
+    refused(
+        |target| codec::write_header(h, MessageType::Announce, content, target, size),
+        why,
+    )
 }
 
 // Whether the writer of headers takes the header, writes F(1) with these six bytes at the start, and leaves the rest.
-fn taken(sdo: u16, major: u8, minor: u8, content: usize, size: usize, six: u64) -> bool {
-    let h = header_of(sdo, major, minor);
-    let mut target = LAY;
-    let mut want = HEADED;
-    wire::put_be(&mut want, 0, 6, six);
-    let answer = codec::write_header(h, MessageType::Announce, content, &mut target, size);
-    (answer == 0) & room::holds(&target, &want, 0)
+fn header_taken(sdo: u16, major: u8, minor: u8, content: usize, size: usize, six: u64) -> bool {
+    let h = frames::versioned(sdo, major, minor);
+    taken(
+        |target| codec::write_header(h, MessageType::Announce, content, target, size),
+        HEADED,
+        0,
+        six,
+    )
 }
 
 // What the writer of headers refuses, and the nearest that it takes.
 pub fn header_limit(n: u64) -> bool {
     match n {
-        0 => refused(0x1000, 2, 0, 30, 64, 15),
-        1 => refused(0xFFFF, 2, 0, 30, 64, 15),
-        2 => taken(0xFFF, 2, 0, 30, 64, 0xFB02_0040_00FF),
-        3 => refused(0, 16, 0, 30, 64, 15),
-        4 => taken(0, 15, 0, 30, 64, 0x0B0F_0040_0000),
-        5 => refused(0, 2, 16, 30, 64, 15),
-        6 => taken(0, 2, 15, 30, 64, 0x0BF2_0040_0000),
-        7 => refused(0, 2, 0, 65502, 64, 15),
-        8 => taken(0, 2, 0, 65501, 64, 0x0B02_FFFF_0000),
-        9 => refused(0, 2, 0, usize::MAX, 64, 15),
-        10 => taken(0, 2, 0, 0, 64, 0x0B02_0022_0000),
-        11 => refused(0, 2, 0, 30, 33, 1),
-        12 => taken(0, 2, 0, 30, 34, 0x0B02_0040_0000),
-        13 => refused(0, 2, 0, 30, 0, 1),
-        14 => refused(0x1000, 2, 0, 30, 33, 15),
-        15 => refused(0, 16, 0, 30, 33, 15),
-        16 => refused(0, 2, 16, 30, 0, 15),
-        17 => refused(0, 2, 0, 65502, 33, 15),
-        _ => refused(0, 2, 0, usize::MAX, 0, 15),
+        0 => header_refused(0x1000, 2, 0, 30, 64, Refusal::Unfit),
+        1 => header_refused(0xFFFF, 2, 0, 30, 64, Refusal::Unfit),
+        2 => header_taken(0xFFF, 2, 0, 30, 64, 0xFB02_0040_00FF),
+        3 => header_refused(0, 16, 0, 30, 64, Refusal::Unfit),
+        4 => header_taken(0, 15, 0, 30, 64, 0x0B0F_0040_0000),
+        5 => header_refused(0, 2, 16, 30, 64, Refusal::Unfit),
+        6 => header_taken(0, 2, 15, 30, 64, 0x0BF2_0040_0000),
+        7 => header_refused(0, 2, 0, 65502, 64, Refusal::Unfit),
+        8 => header_taken(0, 2, 0, 65501, 64, 0x0B02_FFFF_0000),
+        9 => header_refused(0, 2, 0, usize::MAX, 64, Refusal::Unfit),
+        10 => header_taken(0, 2, 0, 0, 64, 0x0B02_0022_0000),
+        11 => header_refused(0, 2, 0, 30, 33, Refusal::Short),
+        12 => header_taken(0, 2, 0, 30, 34, 0x0B02_0040_0000),
+        13 => header_refused(0, 2, 0, 30, 0, Refusal::Short),
+        14 => header_refused(0x1000, 2, 0, 30, 33, Refusal::Unfit),
+        15 => header_refused(0, 16, 0, 30, 33, Refusal::Unfit),
+        16 => header_refused(0, 2, 16, 30, 0, Refusal::Unfit),
+        17 => header_refused(0, 2, 0, 65502, 33, Refusal::Unfit),
+        _ => header_refused(0, 2, 0, usize::MAX, 0, Refusal::Unfit),
     }
 }
 
 // The content of F(1) with the seconds as told.
 fn content_of(seconds: u64) -> AnnounceMessage {
-    let origin = WireTimestamp {
-        seconds: seconds,
-        nanos: 0,
-    };
-    let mut a = frames::f_content(frames::f_header(1));
-    a.origin_timestamp = origin;
-    a
+    frames::timed(frames::f_header(1), seconds)
 }
 
-// Whether the writer of contents refuses with this number and leaves every byte.
-fn content_refused(seconds: u64, size: usize, number: u8) -> bool {
-    let mut target = LAY;
-    let answer = codec::write_content(content_of(seconds), &mut target, size);
-    (answer == number) & room::holds(&target, &LAY, 0)
+// Whether the writer of contents refuses so and leaves every byte.
+fn content_refused(seconds: u64, size: usize, why: Refusal) -> bool {
+    let a = content_of(seconds);
+    refused(|target| codec::write_content(a, target, size), why)
 }
 
 // Whether the writer of contents takes the seconds, writes F(1)'s content with them, and leaves the rest.
 fn content_taken(seconds: u64, size: usize, six: u64) -> bool {
-    let mut target = LAY;
-    let mut want = FILLED;
-    wire::put_be(&mut want, 34, 6, six);
-    let answer = codec::write_content(content_of(seconds), &mut target, size);
-    (answer == 0) & room::holds(&target, &want, 0)
+    let a = content_of(seconds);
+    taken(
+        |target| codec::write_content(a, target, size),
+        FILLED,
+        34,
+        six,
+    )
 }
 
 // What the writer of contents refuses, and the nearest that it takes.
 pub fn content_limit(n: u64) -> bool {
     match n {
-        0 => content_refused(0x1_0000_0000_0000, 30, 15),
-        1 => content_refused(u64::MAX, 30, 15),
+        0 => content_refused(0x1_0000_0000_0000, 30, Refusal::Unfit),
+        1 => content_refused(u64::MAX, 30, Refusal::Unfit),
         2 => content_taken(0xFFFF_FFFF_FFFF, 30, 0xFFFF_FFFF_FFFF),
-        3 => content_refused(0, 29, 1),
-        4 => content_refused(0, 0, 1),
+        3 => content_refused(0, 29, Refusal::Short),
+        4 => content_refused(0, 0, Refusal::Short),
         5 => content_taken(0, 30, 0),
-        6 => content_refused(0x1_0000_0000_0000, 29, 15),
-        _ => content_refused(u64::MAX, 0, 15),
+        6 => content_refused(0x1_0000_0000_0000, 29, Refusal::Unfit),
+        _ => content_refused(u64::MAX, 0, Refusal::Unfit),
     }
 }
 
@@ -154,6 +169,5 @@ pub fn left(n: u64) -> bool {
     let v = (n % 256) as u8;
     let mut want = F;
     want[46] = v;
-    let a = frames::f_content(frames::f_header(1));
-    codec::gives(a, MessageType::Announce, v, &want)
+    codec::gives(frames::f_message(), MessageType::Announce, v, &want)
 }

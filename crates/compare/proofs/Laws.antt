@@ -6,9 +6,9 @@ use Rattle.std.proofs.Math.Decide.{dec_lt}
 use borrow.Author.Tests.{lt-ltb, le-ltb, eq-eqb, ne_eqb}
 use Rattle.verdict.specs.declared.DatasetOrdering.TheVariants.{Better, Worse}
 use Rattle.compare.specs.declared.ComparisonDataset.{ComparisonDataset}
-use Rattle.order.specs.Order.{cmp, lex}
-use Rattle.compare.specs.Dataset.{by_topology, nearer_by, farther_by, topology_row, near, figure34, figure35, compare_of}
-use Rattle.order.specs.Rows.{Two, lt, eq, gt, two, cmp_less, cmp_greater, cmp_equal}
+use Rattle.order.specs.Order.{cmp, then_by, lex}
+use Rattle.compare.specs.Dataset.{quality_row, by_topology, nearer_by, farther_by, topology_row, near, figure34, figure35, compare_of}
+use Rattle.order.specs.Rows.{Two, lt, eq, gt, two, cmp_less, cmp_greater, cmp_equal, then_by_assoc, then_by_equal}
 
 module _ (a b : ComparisonDataset) where
   pub same-grandmaster : a.gm_identity ≡ b.gm_identity → compare_of a b ≡ figure35 a b
@@ -39,6 +39,16 @@ module _ (a b : ComparisonDataset) where
 
   pub level : a.steps_removed ≤ b.steps_removed → b.steps_removed ≤ a.steps_removed → figure35 a b ≡ by_topology (lex (topology_row a) (topology_row b))
   level h k = within (omega arith) (omega arith) ∙ simp (cmp_equal _ _ h k)
+
+-- the numbers that decide between different grandmasters, one after the other
+pub quality-row :
+    (a b : ComparisonDataset)
+    → then_by (then_by (then_by (then_by (then_by (cmp a.gm_priority_1 b.gm_priority_1) (cmp a.gm_clock_quality.clock_class b.gm_clock_quality.clock_class))
+    (cmp a.gm_clock_quality.clock_accuracy b.gm_clock_quality.clock_accuracy)) (cmp a.gm_clock_quality.offset_scaled_log_variance b.gm_clock_quality.offset_scaled_log_variance))
+    (cmp a.gm_priority_2 b.gm_priority_2)) (cmp a.gm_identity b.gm_identity)
+    ≡ lex (quality_row a) (quality_row b)
+unfolding lex
+quality-row a b = simp (then_by_assoc, then_by_equal)
 
 -- two counts of steps, as figure 35 tells them apart
 pub data Gap (m n : ℕ) : Type 0 where

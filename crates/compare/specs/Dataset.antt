@@ -3,8 +3,8 @@
 use Rattle.std.specs.Prelude.{cond, List, [], ◌∷◌, ℕ, ◌+◌, ltb, eqb}
 use Rattle.header.specs.declared.PortIdentity.{PortIdentity}
 use Rattle.announce.specs.declared.AnnounceMessage.{AnnounceMessage}
-use Rattle.order.specs.declared.Ordering.{Ordering}
-use Rattle.order.specs.declared.Ordering.TheVariants.{Less, Equal, Greater}
+use Rattle.std.specs.declared.cmp.Ordering.{Ordering}
+use Rattle.std.specs.declared.cmp.Ordering.TheVariants.{Less, Equal, Greater}
 use Rattle.verdict.specs.declared.DatasetOrdering.{DatasetOrdering}
 use Rattle.verdict.specs.declared.DatasetOrdering.TheVariants.{Better, BetterByTopology, Error1, Error2, WorseByTopology, Worse}
 use Rattle.compare.specs.declared.ComparisonDataset.{ComparisonDataset}

@@ -3,11 +3,11 @@
 
 ghost use Rattle.std.specs.Prelude.{◌≡◌};
 ghost use Rattle.order.specs.Order.{cmp, lex};
-ghost use Rattle.compare.specs.Dataset.{of_announce, of_own, by_topology, nearer_by, farther_by, topology_row, figure34, figure35, compare_of};
+ghost use Rattle.compare.specs.Dataset.{of_announce, of_own, by_topology, nearer_by, farther_by, topology_row, quality_row, figure34, figure35, compare_of};
 
 use announce::{AnnounceMessage, ClockQuality};
 use header::PortIdentity;
-use order::Ordering;
+use std::cmp::Ordering;
 pub use verdict::DatasetOrdering;
 
 // Our own data (D0), as far as the decision reads it.
@@ -86,60 +86,33 @@ impl ComparisonDataset {
     }
 
     // Figure 34: the grandmasters differ. Lower is better.
+    #[tactic(auto, unfolding(crate::specs::Dataset::figure34))]
     fn compare_different_identity(self, other: ComparisonDataset) -> DatasetOrdering
         ensures { result ≡ figure34 self other }
     {
+        match self.quality_standing(other) {
+            Ordering::Less => DatasetOrdering::Better,
+            Ordering::Equal => DatasetOrdering::Error2,
+            Ordering::Greater => DatasetOrdering::Worse,
+        }
+    }
+
+    // How the numbers stand that decide between different grandmasters: the first that differs decides.
+    fn quality_standing(self, other: ComparisonDataset) -> Ordering
+        ensures { result ≡ lex (quality_row self) (quality_row other) }
+    {
         let a = self.gm_clock_quality;
         let b = other.gm_clock_quality;
-        let ours = self.gm_priority_1;
-        let theirs = other.gm_priority_1;
-        if ours < theirs {
-            return DatasetOrdering::Better;
-        }
-        if theirs < ours {
-            return DatasetOrdering::Worse;
-        }
-        let ours = a.clock_class;
-        let theirs = b.clock_class;
-        if ours < theirs {
-            return DatasetOrdering::Better;
-        }
-        if theirs < ours {
-            return DatasetOrdering::Worse;
-        }
-        let ours = a.clock_accuracy;
-        let theirs = b.clock_accuracy;
-        if ours < theirs {
-            return DatasetOrdering::Better;
-        }
-        if theirs < ours {
-            return DatasetOrdering::Worse;
-        }
-        let ours = a.offset_scaled_log_variance;
-        let theirs = b.offset_scaled_log_variance;
-        if ours < theirs {
-            return DatasetOrdering::Better;
-        }
-        if theirs < ours {
-            return DatasetOrdering::Worse;
-        }
-        let ours = self.gm_priority_2;
-        let theirs = other.gm_priority_2;
-        if ours < theirs {
-            return DatasetOrdering::Better;
-        }
-        if theirs < ours {
-            return DatasetOrdering::Worse;
-        }
-        let ours = self.gm_identity;
-        let theirs = other.gm_identity;
-        if ours < theirs {
-            return DatasetOrdering::Better;
-        }
-        if theirs < ours {
-            return DatasetOrdering::Worse;
-        }
-        DatasetOrdering::Error2
+        let priority = self.gm_priority_1.cmp(&other.gm_priority_1);
+        priority
+            .then(a.clock_class.cmp(&b.clock_class))
+            .then(a.clock_accuracy.cmp(&b.clock_accuracy))
+            .then(
+                a.offset_scaled_log_variance
+                    .cmp(&b.offset_scaled_log_variance),
+            )
+            .then(self.gm_priority_2.cmp(&other.gm_priority_2))
+            .then(self.gm_identity.cmp(&other.gm_identity))
     }
 
     // Figure 35: one grandmaster. Fewer steps are better; one step apart, the receiver of the farther one decides.
@@ -175,9 +148,8 @@ impl ComparisonDataset {
     {
         let here = self.identity_of_receiver;
         let there = other.identity_of_receiver;
-        let senders = order::cmp(self.identity_of_senders, other.identity_of_senders);
-        let receivers = order::cmp(here.port_number as u64, there.port_number as u64);
-        match senders.then(receivers) {
+        let senders = self.identity_of_senders.cmp(&other.identity_of_senders);
+        match senders.then(here.port_number.cmp(&there.port_number)) {
             Ordering::Less => DatasetOrdering::BetterByTopology,
             Ordering::Equal => DatasetOrdering::Error2,
             Ordering::Greater => DatasetOrdering::WorseByTopology,
@@ -189,7 +161,7 @@ impl ComparisonDataset {
 fn farther(receiver: u64, sender: u64) -> DatasetOrdering
     ensures { result ≡ farther_by (cmp receiver sender) }
 {
-    match order::cmp(receiver, sender) {
+    match receiver.cmp(&sender) {
         Ordering::Less => DatasetOrdering::Worse,
         Ordering::Equal => DatasetOrdering::Error1,
         Ordering::Greater => DatasetOrdering::WorseByTopology,
@@ -200,7 +172,7 @@ fn farther(receiver: u64, sender: u64) -> DatasetOrdering
 fn nearer(receiver: u64, sender: u64) -> DatasetOrdering
     ensures { result ≡ nearer_by (cmp receiver sender) }
 {
-    match order::cmp(receiver, sender) {
+    match receiver.cmp(&sender) {
         Ordering::Less => DatasetOrdering::Better,
         Ordering::Equal => DatasetOrdering::Error1,
         Ordering::Greater => DatasetOrdering::BetterByTopology,

@@ -4,7 +4,7 @@ use Rattle.std.specs.Prelude.{◌≡◌, ◌+◌, ◌<◌}
 use Rattle.std.proofs.Common.{sym, ap, ◌∙◌, arith}
 use Rattle.compare.specs.declared.ComparisonDataset.{ComparisonDataset}
 use Rattle.verdict.specs.declared.DatasetOrdering.TheVariants.{Better, Error1}
-use Rattle.order.specs.declared.Ordering.TheVariants.{Less}
+use Rattle.std.specs.declared.cmp.Ordering.TheVariants.{Less}
 use Rattle.compare.specs.Dataset.{by_quality, nearer_by, figure34, compare_of}
 use Rattle.order.specs.Rows.{cmp_equal, decided, lower}
 use Rattle.compare.proofs.Laws.{same-grandmaster, other-grandmaster, far-below, below}

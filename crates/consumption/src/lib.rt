@@ -3,7 +3,7 @@
 
 ghost use Rattle.std.specs.Prelude.{◌≡◌, ◌<◌, ◌≤◌, length, get_or};
 ghost use Rattle.history.specs.Rules.{masters_max};
-ghost use Rattle.book.specs.Layout.{master_words, port_words};
+ghost use Rattle.book.specs.Layout.{master_words, port_words, WholePort};
 ghost use Rattle.consumption.specs.Consume.{consumed, consumed_at, gone_at, consumed_in, gone_in};
 
 // A master gives up its newest message: its ring holds one less.
@@ -33,16 +33,13 @@ fn consume_one(port: &mut [u64], winner: usize, i: usize) -> u64
 
 // Every master of a port but the winner gives up the message that it offers; and how many go. `winner` is a place, the count or more where nobody won.
 pub fn consume_port(port: &mut [u64], winner: usize) -> u64
-    requires { (length port.old ≡ port_words) × (get_or port.old 1 0 ≤ masters_max) }
+    requires { WholePort port.old }
     ensures { (port.new ≡ consumed_in winner port.old) × (result ≡ gone_in winner port.old) × (result ≤ masters_max) }
 {
     let count = port[1] as usize;
     let mut gone = 0;
-    let mut i = 0;
-    while i < count {
-        let here = consume_one(port, winner, i);
-        gone += here;
-        i += 1;
+    for i in 0..count {
+        gone += consume_one(port, winner, i);
     }
     gone
 }

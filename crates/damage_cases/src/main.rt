@@ -6,7 +6,9 @@ mod decisions;
 mod short;
 
 use book_vectors::{calls, full, rules, sent};
-use foreign_master::Answer;
+use foreign_master::Tallies;
+use refused::Refusal;
+use vectors::tally;
 use vectors::tally::Tally;
 use words::word;
 
@@ -16,96 +18,97 @@ const CHANGES: usize = 11;
 // Room for a ninth port, which no book has.
 const STORE: usize = 7400;
 
-// A bit the other way round, by its value.
-fn turned(x: u64, bit: u64) -> u64 {
-    let value = bit % 0x8000_0000_0000_0000 + 1;
-    if x / value % 2 == 0 {
-        return std::num::wrapping_add_u64(x, value);
-    }
-    std::num::wrapping_sub_u64(x, value)
-}
-
 // A word changed: none, all ones, by one, by one step or sequence where it holds these, in one bit, or to a clock of the list.
 fn changed(x: u64, change: usize) -> u64 {
     match change {
         0 => 0,
         1 => 0xFFFF_FFFF_FFFF_FFFF,
-        2 => std::num::wrapping_add_u64(x, 1),
-        3 => std::num::wrapping_sub_u64(x, 1),
-        4 => std::num::wrapping_add_u64(x, 0x0001_0000),
-        5 => std::num::wrapping_add_u64(x, 0x0001_0000_0000),
-        6 => turned(x, 15),
-        7 => turned(x, 0x0001_FFFF_FFFF),
-        8 => turned(x, 0x0FFF_FFFF_FFFF_FFFF),
-        9 => turned(x, 0x7FFF_FFFF_FFFF_FFFF),
+        2 => x.wrapping_add(1),
+        3 => x.wrapping_sub(1),
+        4 => x.wrapping_add(0x0001_0000),
+        5 => x.wrapping_add(0x0001_0000_0000),
+        6 => x ^ 0x0000_0010,
+        7 => x ^ 0x0002_0000_0000,
+        8 => x ^ 0x1000_0000_0000_0000,
+        9 => x ^ 0x8000_0000_0000_0000,
         _ => sent::clock(b'A'),
     }
 }
 
 // Whether an answer is right for a book that is sound or not: 16 and no word changed, or another answer.
-fn right(answer: Answer, sound: bool, store: &[u64], before: &[u64]) -> bool {
+fn right(answer: Result<Tallies, Refusal>, sound: bool, store: &[u64], before: &[u64]) -> bool {
+    let refused = answer.err() == Some(Refusal::Unsound);
     if sound {
-        return !calls::is(answer, 16, 0, 0);
+        !refused
+    } else {
+        refused && store == before
     }
-    calls::is(answer, 16, 0, 0) & words::same(store, before)
 }
 
 // A decision, and the first candidate.
 fn decided(store: &mut [u64], before: &[u64], sound: bool) -> bool {
-    let offered = decisions::offered(store);
-    let number = decisions::decide(store).number;
+    let offered = decisions::offered(store).err();
+    let decided = decisions::decide(store).err();
     if sound {
-        return (offered == 0) & (number == 0);
+        offered.is_none() && decided.is_none()
+    } else {
+        let unsound = Some(Refusal::Unsound);
+        offered == unsound && decided == unsound && &*store == before
     }
-    (offered == 16) & (number == 16) & words::same(store, before)
 }
 
 // A good frame, a step of age, and these.
 fn every_call(store: &mut [u64], before: &[u64], sound: bool) -> bool {
-    let first = calls::register(store, 1, b'A', b'g', 5, 0);
+    let first = calls::register(store, sent::good(1, b'A', 5, 0));
     let registers = right(first, sound, store, before);
     words::copy(before, store);
     let second = foreign_master::step_age(store, 1);
     let ages = right(second, sound, store, before);
     words::copy(before, store);
-    registers & ages & decided(store, before, sound)
+    registers && ages && decided(store, before, sound)
 }
 
 // The tallies of the books that are still sound, and of those that are not.
-#[derive(Clone, Copy)]
-struct Tallies {
+#[derive(Clone, Copy, Default)]
+struct Counts {
     sound: Tally,
     unsound: Tally,
 }
 
-fn counted(t: Tallies, sound: bool, right: bool) -> Tallies {
-    let kept = t.sound;
-    let broken = t.unsound;
-    if sound {
-        return Tallies {
-            sound: kept.with(right),
+impl Counts {
+    // One case more.
+    fn with(self, sound: bool, right: bool) -> Counts {
+        let Counts {
+            sound: kept,
             unsound: broken,
-        };
-    }
-    Tallies {
-        sound: kept,
-        unsound: broken.with(right),
+        } = self;
+        if sound {
+            Counts {
+                sound: kept.with(right),
+                unsound: broken,
+            }
+        } else {
+            Counts {
+                sound: kept,
+                unsound: broken.with(right),
+            }
+        }
     }
 }
 
 // One change of one word; the book is whole again afterwards.
-fn one(t: Tallies, store: &mut [u64], book: &mut [u64], at: usize, change: usize) -> Tallies {
+fn one(t: Counts, store: &mut [u64], book: &mut [u64], at: usize, change: usize) -> Counts {
     let was = word(book, at);
     words::put(book, at, changed(was, change));
     words::copy(book, store);
     let sound = rules::sound(book);
     let answered = every_call(store, book, sound);
     words::put(book, at, was);
-    counted(t, sound, answered)
+    t.with(sound, answered)
 }
 
 // All changes of a word.
-fn every(t: Tallies, store: &mut [u64], book: &mut [u64], at: usize) -> Tallies {
+fn every(t: Counts, store: &mut [u64], book: &mut [u64], at: usize) -> Counts {
     let mut all = t;
     for change in 0..CHANGES {
         all = one(all, store, book, at, change);
@@ -113,12 +116,8 @@ fn every(t: Tallies, store: &mut [u64], book: &mut [u64], at: usize) -> Tallies 
     all
 }
 
-fn all(store: &mut [u64], book: &mut [u64]) -> Tallies {
-    let none = Tally { cases: 0, wrong: 0 };
-    let mut all = Tallies {
-        sound: none,
-        unsound: none,
-    };
+fn all(store: &mut [u64], book: &mut [u64]) -> Counts {
+    let mut all = Counts::default();
     full::fill(book);
     for at in 0..words::BOOK {
         all = every(all, store, book, at);
@@ -126,25 +125,15 @@ fn all(store: &mut [u64], book: &mut [u64]) -> Tallies {
     all
 }
 
-fn short_stores() {
-    let mut t = Tally { cases: 0, wrong: 0 };
-    for n in 0..short::CASES {
-        t = t.with(short::one(n));
-    }
-    t.report(b"stores too short");
-}
-
 fn changed_words() {
     let mut store = [0u64; STORE];
     let mut book = [0u64; STORE];
     let t = all(&mut store, &mut book);
-    let broken = t.unsound;
-    let kept = t.sound;
-    broken.report(b"one word changed, unsound");
-    kept.report(b"one word changed, sound");
+    t.unsound.report(b"one word changed, unsound");
+    t.sound.report(b"one word changed, sound");
 }
 
 fn main() {
-    short_stores();
+    tally::run(b"stores too short", short::CASES, short::one);
     changed_words();
 }

@@ -2,12 +2,9 @@
 -- Assumes nothing.
 use Rattle.std.specs.Prelude.{◌≡◌, refl}
 use Rattle.std.proofs.Common.{sym, ap, ◌∙◌}
-use Rattle.decision.specs.declared.BestMessage.{BestMessage}
-use Rattle.decision.specs.declared.BestMessage.TheVariants.{Nothing, Found}
 use Rattle.decision.specs.declared.RecommendedState.{RecommendedState}
 use Rattle.decision.specs.declared.RecommendedState.TheVariants.{Stay, M1, M2, M3, P1, P2, S1}
-use Rattle.decision.specs.State.{option_of}
-use Rattle.decision.specs.Answer.{answer_of, state_for, found}
+use Rattle.decision.specs.Answer.{answer_of, state_for}
 
 state-back : (s : RecommendedState) → state_for (answer_of s) ≡ s
 state-back Stay = refl
@@ -21,10 +18,3 @@ state-back (S1 m) = refl
 -- Two states with the same number and values are the same.
 pub answer_determines : (s t : RecommendedState) → answer_of s ≡ answer_of t → s ≡ t
 answer_determines s t e = sym (state-back s) ∙ ap state_for e ∙ state-back t
-
-found_back : (b : BestMessage) → found (option_of b) ≡ b
-found_back Nothing = refl
-found_back (Found b) = refl
-
-pub option_determines : (a b : BestMessage) → option_of a ≡ option_of b → a ≡ b
-option_determines a b e = sym (found_back a) ∙ ap found e ∙ found_back b

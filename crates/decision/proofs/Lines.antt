@@ -1,7 +1,6 @@
 -- The line of paper 01, "On both sides of a line", that speaks of our clock class and is marked (P).
 -- Assumes nothing.
-use Rattle.std.specs.Prelude.{◌≡◌, Bool, true, false}
-use Rattle.std.proofs.Math.Option.{Option}
+use Rattle.std.specs.Prelude.{◌≡◌, Bool, true, false, Option}
 use Rattle.std.proofs.Common.{arith}
 use Rattle.compare.specs.declared.InternalDefaultDS.{InternalDefaultDS}
 use Rattle.choice.specs.declared.BestAnnounceMessage.{BestAnnounceMessage}

@@ -1,22 +1,19 @@
 -- The steps of the code, by their cases.
 -- Assumes nothing.
-use Rattle.std.specs.Prelude.{◌≡◌, Bool, true, false, ◌≤◌, ◌<◌}
+use Rattle.std.specs.Prelude.{◌≡◌, Bool, true, false, ◌≤◌, ◌<◌, Option, Some, None}
 use Rattle.std.proofs.Math.Path.{refl}
 use Rattle.std.proofs.Math.Bool.{cond}
-use Rattle.std.proofs.Math.Option.{Option, none, some}
 use Rattle.std.proofs.Common.{arith}
 use borrow.Author.Tests.{le-leb, lt-leb, eq-eqb, ne_eqb}
 use Rattle.compare.specs.declared.ComparisonDataset.{ComparisonDataset}
 use Rattle.compare.specs.declared.InternalDefaultDS.{InternalDefaultDS}
-use Rattle.order.specs.declared.Ordering.{Ordering}
+use Rattle.std.specs.declared.cmp.Ordering.{Ordering}
 use Rattle.compare.specs.Dataset.{compare_of, as_ordering, is_by_topology}
 use Rattle.choice.specs.declared.BestAnnounceMessage.{BestAnnounceMessage}
 use Rattle.same.specs.Same.{same_port, same_message}
-use Rattle.decision.specs.declared.BestMessage.{BestMessage}
-use Rattle.decision.specs.declared.BestMessage.TheVariants.{Nothing, Found}
 use Rattle.decision.specs.declared.RecommendedState.{RecommendedState}
 use Rattle.decision.specs.declared.RecommendedState.TheVariants.{Stay, M3, P2, S1}
-use Rattle.decision.specs.State.{option_of, set_of, same_best, compared_by, compare_d0, global_and_port, against_port, low_class, high_class, low, by_class, stays, state_of}
+use Rattle.decision.specs.State.{set_of, same_best, compared_by, compare_d0, global_and_port, against_port, low_class, high_class, low, by_class, stays, state_of}
 
 -- whole records
 module _ (a b : BestAnnounceMessage) where
@@ -46,15 +43,15 @@ module _ (a b : BestAnnounceMessage) where
   state-far e f = rw (e, f)
 
 -- Ebest ranks above our own data: by whether the port has an Erbest
-module _ (g : BestAnnounceMessage) (s : BestMessage) where
-  pub against_none : s ≡ Nothing → M3 g.message ≡ against_port g (option_of s)
+module _ (g : BestAnnounceMessage) (s : Option BestAnnounceMessage) where
+  pub against_none : s ≡ None → M3 g.message ≡ against_port g s
   against_none e = rw e
 
-  pub against_found : (p : BestAnnounceMessage) (r : RecommendedState) → s ≡ Found p → r ≡ global_and_port g p → r ≡ against_port g (option_of s)
+  pub against_found : (p : BestAnnounceMessage) (r : RecommendedState) → s ≡ Some p → r ≡ global_and_port g p → r ≡ against_port g s
   against_found p r e f = rw e f
 
 -- our own data against a best message that is there
-pub compared : (d0 : ComparisonDataset) (s : BestMessage) (b : BestAnnounceMessage) (o : Ordering) → s ≡ Found b → o ≡ as_ordering (compare_of d0 (set_of b)) → compared_by o b ≡ compare_d0 d0 (option_of s)
+pub compared : (d0 : ComparisonDataset) (s : Option BestAnnounceMessage) (b : BestAnnounceMessage) (o : Ordering) → s ≡ Some b → o ≡ as_ordering (compare_of d0 (set_of b)) → compared_by o b ≡ compare_d0 d0 s
 compared d0 s b o e f = rw (e, f)
 
 -- our clock class
@@ -78,19 +75,19 @@ module _ (own : InternalDefaultDS) (g p : Option BestAnnounceMessage) where
   class-high e = rw e
 
 -- one port: only a listening one without an Erbest stays
-module _ (own : InternalDefaultDS) (g : Option BestAnnounceMessage) (s : BestMessage) where
-  pub state-stays : (listening : Bool) → listening ≡ true → s ≡ Nothing → state_of own g (option_of s) listening ≡ Stay
+module _ (own : InternalDefaultDS) (g : Option BestAnnounceMessage) (s : Option BestAnnounceMessage) where
+  pub state-stays : (listening : Bool) → listening ≡ true → s ≡ None → state_of own g s listening ≡ Stay
   unfolding state_of
   state-stays listening e f = rw (e, f)
 
-  pub state-found : (listening : Bool) (b : BestAnnounceMessage) → s ≡ Found b → state_of own g (option_of s) listening ≡ by_class own g (option_of s)
+  pub state-found : (listening : Bool) (b : BestAnnounceMessage) → s ≡ Some b → state_of own g s listening ≡ by_class own g s
   unfolding state_of
   state-found listening b e = rw e
 
-  pub state_deaf : (listening : Bool) → listening ≡ false → state_of own g (option_of s) listening ≡ by_class own g (option_of s)
+  pub state_deaf : (listening : Bool) → listening ≡ false → state_of own g s listening ≡ by_class own g s
   unfolding state_of
-  state_deaf listening e = go (option_of s)
+  state_deaf listening e = go s
     where
       go : (o : Option BestAnnounceMessage) → cond (stays listening o) Stay (by_class own g o) ≡ by_class own g o
-      go none = rw e
-      go (some b) = refl
+      go None = rw e
+      go (Some b) = refl

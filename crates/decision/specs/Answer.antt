@@ -1,12 +1,8 @@
 -- The answers in the paper's numbers and values: each determines the answer.
 -- Assumes nothing.
 use Rattle.std.specs.Prelude.{cond, ℕ, eqb}
-use Rattle.std.proofs.Math.Option.{Option, none, some}
 use Rattle.announce.specs.declared.AnnounceMessage.{AnnounceMessage}
 use Rattle.compare.specs.declared.InternalDefaultDS.{InternalDefaultDS}
-use Rattle.choice.specs.declared.BestAnnounceMessage.{BestAnnounceMessage}
-use Rattle.decision.specs.declared.BestMessage.{BestMessage}
-use Rattle.decision.specs.declared.BestMessage.TheVariants.{Nothing, Found}
 use Rattle.decision.specs.declared.RecommendedState.{RecommendedState}
 use Rattle.decision.specs.declared.RecommendedState.TheVariants.{Stay, M1, M2, M3, P1, P2, S1}
 
@@ -43,8 +39,3 @@ abbrev pub state_for : ℕ × Carried → RecommendedState
 state_for (n, nothing) = Stay
 state_for (n, own_data own) = cond (eqb n 1) (M1 own) (M2 own)
 state_for (n, message m) = cond (eqb n 3) (M3 m) (cond (eqb n 4) (P1 m) (cond (eqb n 5) (P2 m) (S1 m)))
-
--- So are two best messages.
-abbrev pub found : Option BestAnnounceMessage → BestMessage
-found none = Nothing
-found (some b) = Found b

@@ -1,25 +1,17 @@
 -- The state decision: what each port is to do, after bmca.rs and figure 33 of IEEE 1588-2019.
 -- Assumes nothing.
-use Rattle.std.specs.Prelude.{Bool, false, cond, ◌&&◌, leb, eqb}
-use Rattle.std.proofs.Math.Option.{Option, none, some}
+use Rattle.std.specs.Prelude.{Bool, false, cond, ◌&&◌, leb, eqb, Option, Some, None}
 use Rattle.compare.specs.declared.ComparisonDataset.{ComparisonDataset}
 use Rattle.compare.specs.declared.InternalDefaultDS.{InternalDefaultDS}
-use Rattle.order.specs.declared.Ordering.{Ordering}
-use Rattle.order.specs.declared.Ordering.TheVariants.{Less, Equal, Greater}
+use Rattle.std.specs.declared.cmp.Ordering.{Ordering}
+use Rattle.std.specs.declared.cmp.Ordering.TheVariants.{Less, Equal, Greater}
 use Rattle.compare.specs.Dataset.{of_announce, of_own, compare_of, as_ordering, is_by_topology}
 use Rattle.choice.specs.declared.BestAnnounceMessage.{BestAnnounceMessage}
 use Rattle.same.specs.Same.{same_port, same_message}
-use Rattle.decision.specs.declared.BestMessage.{BestMessage}
-use Rattle.decision.specs.declared.BestMessage.TheVariants.{Nothing, Found}
 use Rattle.decision.specs.declared.MessageComparison.{MessageComparison}
 use Rattle.decision.specs.declared.MessageComparison.TheVariants.{Better, Same, Worse}
 use Rattle.decision.specs.declared.RecommendedState.{RecommendedState}
 use Rattle.decision.specs.declared.RecommendedState.TheVariants.{Stay, M1, M2, M3, P1, P2, S1}
-
--- a best message, if there is one
-abbrev pub option_of : BestMessage → Option BestAnnounceMessage
-option_of Nothing = none
-option_of (Found b) = some b
 
 -- the comparison set of a best message
 abbrev pub set_of : BestAnnounceMessage → ComparisonDataset
@@ -36,8 +28,8 @@ compared_by Equal b = Same
 compared_by Greater b = Better
 
 abbrev pub compare_d0 : ComparisonDataset → Option BestAnnounceMessage → MessageComparison
-compare_d0 d0 none = Better
-compare_d0 d0 (some b) = compared_by (as_ordering (compare_of d0 (set_of b))) b
+compare_d0 d0 None = Better
+compare_d0 d0 (Some b) = compared_by (as_ordering (compare_of d0 (set_of b))) b
 
 -- Ebest ranks above our own data, and the port has an Erbest
 unfoldable pub global_and_port : BestAnnounceMessage → BestAnnounceMessage → RecommendedState
@@ -56,8 +48,8 @@ low_class own p = low_by own (compare_d0 (of_own own) p)
 
 -- any other class: Ebest first
 abbrev pub against_port : BestAnnounceMessage → Option BestAnnounceMessage → RecommendedState
-against_port g none = M3 g.message
-against_port g (some p) = global_and_port g p
+against_port g None = M3 g.message
+against_port g (Some p) = global_and_port g p
 
 abbrev pub high_by : InternalDefaultDS → MessageComparison → Option BestAnnounceMessage → RecommendedState
 high_by own Better p = M2 own
@@ -75,8 +67,8 @@ by_class own g p = cond (low own) (low_class own p) (high_class own g p)
 
 -- one port: a listening one without an Erbest stays as it is, whatever the class
 abbrev pub stays : Bool → Option BestAnnounceMessage → Bool
-stays listening none = listening
-stays listening (some p) = false
+stays listening None = listening
+stays listening (Some p) = false
 
 unfoldable pub state_of : InternalDefaultDS → Option BestAnnounceMessage → Option BestAnnounceMessage → Bool → RecommendedState
 state_of own g p listening = cond (stays listening p) Stay (by_class own g p)

@@ -2,20 +2,13 @@
 #![tactic(auto)]
 
 ghost use Rattle.std.specs.Prelude.{◌≡◌};
-ghost use Rattle.decision.specs.State.{option_of, same_best, compare_d0, global_and_port, low_class, high_class, by_class, state_of};
+ghost use Rattle.decision.specs.State.{same_best, compare_d0, global_and_port, low_class, high_class, by_class, state_of};
 ghost use Rattle.decision.specs.Answer.{number_of};
 
 use announce::AnnounceMessage;
 use choice::BestAnnounceMessage;
 use compare::{ComparisonDataset, DatasetOrdering, InternalDefaultDS};
-use order::Ordering;
-
-// Ebest or Erbest, if there is one.
-#[derive(Clone, Copy)]
-pub enum BestMessage {
-    Nothing,
-    Found(BestAnnounceMessage),
-}
+use std::cmp::Ordering;
 
 // How our own data stands to the best message.
 #[derive(Clone, Copy)]
@@ -60,32 +53,23 @@ impl RecommendedState {
 }
 
 // The whole of two records is equal: receiver, age, and message with its header.
+#[tactic(auto, unfolding(crate::specs::State::same_best))]
 fn same_best(a: BestAnnounceMessage, b: BestAnnounceMessage) -> bool
     ensures { result ≡ same_best a b }
 {
-    let here = a.identity;
-    let there = b.identity;
-    if same::same_port(here, there) {
-        if a.age == b.age {
-            let ours = a.message;
-            let theirs = b.message;
-            return same::same_message(ours, theirs);
-        }
-        return false;
-    }
-    false
+    same::same_port(a.identity, b.identity)
+        && a.age == b.age
+        && same::same_message(a.message, b.message)
 }
 
 // Our own data D0 against the best message.
-fn compare_d0_best(d0: ComparisonDataset, best: BestMessage) -> MessageComparison
-    ensures { result ≡ compare_d0 d0 (option_of best) }
+fn compare_d0_best(d0: ComparisonDataset, best: Option<BestAnnounceMessage>) -> MessageComparison
+    ensures { result ≡ compare_d0 d0 best }
 {
     match best {
-        BestMessage::Nothing => MessageComparison::Better,
-        BestMessage::Found(b) => {
-            let message = b.message;
-            let identity = b.identity;
-            let dataset = ComparisonDataset::from_announce_message(message, identity);
+        None => MessageComparison::Better,
+        Some(b) => {
+            let dataset = ComparisonDataset::from_announce_message(b.message, b.identity);
             match d0.compare(dataset).as_ordering() {
                 Ordering::Less => MessageComparison::Worse(b),
                 Ordering::Equal => MessageComparison::Same,
@@ -97,95 +81,85 @@ fn compare_d0_best(d0: ComparisonDataset, best: BestMessage) -> MessageCompariso
 
 // The state decision for one port, by Ebest, the port's Erbest and whether it listens. A listening port without a best message
 // stays as it is.
+#[tactic(auto, unfolding(crate::specs::State::state_of))]
 pub fn calculate_recommended_state(
     own: InternalDefaultDS,
-    global: BestMessage,
-    port: BestMessage,
+    global: Option<BestAnnounceMessage>,
+    port: Option<BestAnnounceMessage>,
     listening: bool,
 ) -> RecommendedState
-    ensures { result ≡ state_of own (option_of global) (option_of port) listening }
+    ensures { result ≡ state_of own global port listening }
 {
-    if listening {
-        if let BestMessage::Nothing = port {
-            return RecommendedState::Stay;
-        }
-        return by_class(own, global, port);
+    if listening && port.is_none() {
+        return RecommendedState::Stay;
     }
     by_class(own, global, port)
 }
 
 // By our clock class.
-fn by_class(own: InternalDefaultDS, global: BestMessage, port: BestMessage) -> RecommendedState
-    ensures { result ≡ by_class own (option_of global) (option_of port) }
+#[tactic(auto, unfolding(crate::specs::State::low))]
+fn by_class(
+    own: InternalDefaultDS,
+    global: Option<BestAnnounceMessage>,
+    port: Option<BestAnnounceMessage>,
+) -> RecommendedState
+    ensures { result ≡ by_class own global port }
 {
     let class = own.clock_quality.clock_class;
-    if class < RecommendedState::LOW_CLASS_FIRST {
-        return calculate_recommended_state_high_class(own, global, port);
+    if (RecommendedState::LOW_CLASS_FIRST..=RecommendedState::LOW_CLASS_LAST).contains(&class) {
+        calculate_recommended_state_low_class(own, port)
+    } else {
+        calculate_recommended_state_high_class(own, global, port)
     }
-    if RecommendedState::LOW_CLASS_LAST < class {
-        return calculate_recommended_state_high_class(own, global, port);
-    }
-    calculate_recommended_state_low_class(own, port)
 }
 
 // Only the best message of the port is considered.
 fn calculate_recommended_state_low_class(
     own: InternalDefaultDS,
-    port: BestMessage,
+    port: Option<BestAnnounceMessage>,
 ) -> RecommendedState
-    ensures { result ≡ low_class own (option_of port) }
+    ensures { result ≡ low_class own port }
 {
     let d0 = ComparisonDataset::from_own_data(own);
     match compare_d0_best(d0, port) {
-        MessageComparison::Better => RecommendedState::M1(own),
-        MessageComparison::Same => RecommendedState::M1(own),
-        MessageComparison::Worse(best) => {
-            let message = best.message;
-            RecommendedState::P1(message)
-        }
+        MessageComparison::Better | MessageComparison::Same => RecommendedState::M1(own),
+        MessageComparison::Worse(best) => RecommendedState::P1(best.message),
     }
 }
 
 // The best message of all ports is considered first.
 fn calculate_recommended_state_high_class(
     own: InternalDefaultDS,
-    global: BestMessage,
-    port: BestMessage,
+    global: Option<BestAnnounceMessage>,
+    port: Option<BestAnnounceMessage>,
 ) -> RecommendedState
-    ensures { result ≡ high_class own (option_of global) (option_of port) }
+    ensures { result ≡ high_class own global port }
 {
     let d0 = ComparisonDataset::from_own_data(own);
     match compare_d0_best(d0, global) {
-        MessageComparison::Better => RecommendedState::M2(own),
-        MessageComparison::Same => RecommendedState::M2(own),
+        MessageComparison::Better | MessageComparison::Same => RecommendedState::M2(own),
         MessageComparison::Worse(best) => match port {
-            BestMessage::Nothing => {
-                let message = best.message;
-                RecommendedState::M3(message)
-            }
-            BestMessage::Found(ours) => compare_global_and_port(best, ours),
+            None => RecommendedState::M3(best.message),
+            Some(ours) => compare_global_and_port(best, ours),
         },
     }
 }
 
 // Ebest ranks above our own data, and the port has an Erbest.
+#[tactic(auto, unfolding(crate::specs::State::global_and_port))]
 fn compare_global_and_port(
     global: BestAnnounceMessage,
     port: BestAnnounceMessage,
 ) -> RecommendedState
     ensures { result ≡ global_and_port global port }
 {
-    let best = global.message;
     if same_best(global, port) {
-        return RecommendedState::S1(best);
+        return RecommendedState::S1(global.message);
     }
-    let here = global.identity;
-    let ours = port.message;
-    let there = port.identity;
-    let ebest = ComparisonDataset::from_announce_message(best, here);
-    let erbest = ComparisonDataset::from_announce_message(ours, there);
+    let ebest = ComparisonDataset::from_announce_message(global.message, global.identity);
+    let erbest = ComparisonDataset::from_announce_message(port.message, port.identity);
     if ebest.compare(erbest).by_topology() {
-        return RecommendedState::P2(ours);
+        return RecommendedState::P2(port.message);
     }
-    RecommendedState::M3(best)
+    RecommendedState::M3(global.message)
 }

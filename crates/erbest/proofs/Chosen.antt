@@ -1,17 +1,16 @@
 -- The choice on words and places is the choice among the offers of a port.
 -- Assumes nothing.
-use Rattle.std.specs.Prelude.{ℕ, zero, suc, ◌≤◌, ◌<◌, ◌≡◌, Bool, ltb, eqb}
+use Rattle.std.specs.Prelude.{ℕ, zero, suc, ◌≤◌, ◌<◌, ◌≡◌, Bool, ltb, eqb, Option, Some, None, option_map}
 use Rattle.std.proofs.Math.Path.{refl, sym, ap}
 use Rattle.std.proofs.Common.{◌∙◌, arith}
 use Rattle.std.proofs.Math.Bool.{true, false, cond}
 use mathlib.Core.List.{List, [], ◌∷◌}
-use Rattle.std.proofs.Math.Option.{Option, none, some, map}
 use borrow.Author.Tests.{lt-ltb, le-ltb, ltb-false, ne_eqb}
 use Rattle.std.proofs.Math.ListN.{get_or}
 use Rattle.header.specs.declared.PortIdentity.{PortIdentity}
 use Rattle.choice.specs.Choice.{All, from, choose}
 use Rattle.choice.specs.Candidate.{stays_by, winner}
-use Rattle.choice.proofs.Chosen.{from_has, choose-agree, choose-map, map_option}
+use Rattle.choice.proofs.Chosen.{from_has, choose-agree, choose-map}
 use Rattle.history.specs.Port.{Site, Offer, receiver, shown, won_by, chosen, decide_port}
 use Rattle.book.specs.Layout.{port_of, reads}
 use Rattle.book.specs.Rules.{port_sound}
@@ -44,7 +43,7 @@ module _ (above : ℕ → ℕ → Bool) (n : ℕ) where
       keep-below false = a.0
 
   -- from none
-  walk-choose : {A : Type 0} (f : ℕ → A) (is : List ℕ) → All (λ i. i < n) is → found f n (walk above n n is) ≡ map_option f (choose above is)
+  walk-choose : {A : Type 0} (f : ℕ → A) (is : List ℕ) → All (λ i. i < n) is → found f n (walk above n n is) ≡ option_map f (choose above is)
   unfolding walk choose
   walk-choose f [] a = simp (le-ltb n n (omega arith))
   walk-choose f (i ∷ is) a =
@@ -69,14 +68,14 @@ module _ (h p : List ℕ) (r : PortIdentity) (own : r.clock_identity ≡ get_or 
       let below : All (λ i. i < n) (offering p) = down-below n n (offers_at p) (omega arith) in
       ap (choose (stays_by shown)) (offers_view r p)
       ∙ choose-map (offer_at r p) (stays_by shown) (offering p)
-      ∙ ap (map_option (offer_at r p)) (choose-agree {P = λ i. i < n} same (offering p) below)
+      ∙ ap (option_map (offer_at r p)) (choose-agree {P = λ i. i < n} same (offering p) below)
       ∙ sym (walk-choose (stays_in p) n (offer_at r p) (offering p) below)
 
   -- A master has won exactly where its place is the winner's; where no master offers, nobody has.
   pub won_view : (i : ℕ) → i < get_or p 1 0 → won_by (chosen reads r (port_of p).masters) i ≡ eqb (winner_place p) i
   won_view i l = ap (λ (w : Option Offer). won_by w i) chosen_view ∙ go (ltb (winner_place p) (get_or p 1 0)) refl
     where
-      go : (t : Bool) → ltb (winner_place p) (get_or p 1 0) ≡ t → won_by (cond t (some (offer_at r p (winner_place p))) none) i ≡ eqb (winner_place p) i
+      go : (t : Bool) → ltb (winner_place p) (get_or p 1 0) ≡ t → won_by (cond t (Some (offer_at r p (winner_place p))) None) i ≡ eqb (winner_place p) i
       go true e = refl
       go false e = sym (ne_eqb (winner_place p) i (λ q. absurd (omega (arith, ltb-false (winner_place p) (get_or p 1 0) e))))
 
@@ -84,8 +83,8 @@ module _ (h p : List ℕ) (r : PortIdentity) (own : r.clock_identity ≡ get_or 
 pub best_view : (h p : List ℕ) (S : Site) (k : ℕ) → S.own ≡ get_or h 1 0 → port_sound h p ≡ true
     → (decide_port reads S k (port_of p)).best ≡ best_in (receiver S k) p (winner_place p)
 unfolding decide_port
-best_view h p S k own sound = ap (map (λ (o : Offer). o.best)) (chosen_view h p (receiver S k) own sound) ∙ go (ltb (winner_place p) (get_or p 1 0))
+best_view h p S k own sound = ap (option_map (λ (o : Offer). o.best)) (chosen_view h p (receiver S k) own sound) ∙ go (ltb (winner_place p) (get_or p 1 0))
   where
-    go : (t : Bool) → map (λ (o : Offer). o.best) (cond t (some (offer_at (receiver S k) p (winner_place p))) none) ≡ cond t (some (best_at (receiver S k) p (winner_place p))) none
+    go : (t : Bool) → option_map (λ (o : Offer). o.best) (cond t (Some (offer_at (receiver S k) p (winner_place p))) None) ≡ cond t (Some (best_at (receiver S k) p (winner_place p))) None
     go true = refl
     go false = refl

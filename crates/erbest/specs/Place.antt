@@ -1,8 +1,7 @@
 -- The choice on places: a place below the count is a master, the count itself is none.
 -- Assumes nothing.
-use Rattle.std.specs.Prelude.{ℕ, ◌<◌, ◌≡◌, Bool, cond, List, [], ◌∷◌, ltb, get_or}
+use Rattle.std.specs.Prelude.{ℕ, ◌<◌, ◌≡◌, Bool, cond, List, [], ◌∷◌, ltb, get_or, Option, Some, None}
 use Rattle.std.proofs.Math.Bool.{true}
-use Rattle.std.proofs.Math.Option.{Option, none, some}
 use Rattle.header.specs.declared.PortIdentity.{PortIdentity}
 use Rattle.choice.specs.declared.BestAnnounceMessage.{BestAnnounceMessage}
 use Rattle.offers.specs.Offers.{master_in, offers_at, best_at, offering}
@@ -10,7 +9,7 @@ use Rattle.stays.specs.Words.{stays_at}
 
 -- what stands at a place below n; n is none
 abbrev pub found : {A : Type 0} → (ℕ → A) → ℕ → ℕ → Option A
-found f n i = cond (ltb i n) (some (f i)) none
+found f n i = cond (ltb i n) (Some (f i)) None
 
 -- the newest message of the master at a place, as its receiver offers it
 abbrev pub best_in : PortIdentity → List ℕ → ℕ → Option BestAnnounceMessage

@@ -2,13 +2,12 @@
 #![tactic(auto)]
 
 ghost use Rattle.std.specs.Prelude.{◌≡◌, ◌<◌, ◌≤◌, length, get_or};
-ghost use Rattle.decision.specs.State.{option_of};
 ghost use Rattle.history.specs.Rules.{masters_max};
 ghost use Rattle.book.specs.Layout.{port_words};
 ghost use Rattle.offers.specs.Offers.{master_in};
 ghost use Rattle.erbest.specs.Place.{Offered, keep_offered, winner_place, best_in};
 
-use decision::BestMessage;
+use choice::BestAnnounceMessage;
 use header::PortIdentity;
 
 // One step of the choice: master i against the one held, if it offers a message.
@@ -30,9 +29,10 @@ fn keep(port: &[u64], held: usize, i: usize) -> usize
         &port[a..a + book::MASTER_WORDS],
         &port[b..b + book::MASTER_WORDS],
     ) {
-        return held;
+        held
+    } else {
+        i
     }
-    i
 }
 
 // The place of the master whose message is the port's Erbest, or the count of masters where none offers: from the last to the first.
@@ -42,23 +42,21 @@ pub fn port_winner(port: &[u64]) -> usize
 {
     let count = port[1] as usize;
     let mut held = count;
-    let mut i = count;
-    while 0 < i {
-        i -= 1;
+    for i in (0..count).rev() {
         held = keep(port, held, i);
     }
     held
 }
 
 // The port's Erbest, by the place of its master; the count of masters is nobody's.
-pub fn erbest(port: &[u64], winner: usize, receiver: PortIdentity) -> BestMessage
+pub fn erbest(port: &[u64], winner: usize, receiver: PortIdentity) -> Option<BestAnnounceMessage>
     requires port_len { (length port.now ≡ port_words) × (get_or port.now 1 0 ≤ masters_max) }
     requires bound { winner < get_or port.now 1 0 → 1 ≤ get_or (master_in port.now winner) 3 0 }
-    ensures { option_of result ≡ best_in receiver port.now winner }
+    ensures { result ≡ best_in receiver port.now winner }
 {
     let count = port[1] as usize;
     if count <= winner {
-        return BestMessage::Nothing;
+        return None;
     }
-    BestMessage::Found(offers::best_at(port, winner, receiver))
+    Some(offers::best_at(port, winner, receiver))
 }

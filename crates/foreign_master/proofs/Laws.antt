@@ -1,6 +1,6 @@
 -- What the calls do to the book that a store holds: their words are the calls on the book, and a sound book stays sound.
 -- Assumes nothing.
-use Rattle.std.specs.Prelude.{ℕ, zero, suc, ◌+◌, ◌-◌, ◌≤◌, ◌<◌, List, [], ◌∷◌, eqb, get_or}
+use Rattle.std.specs.Prelude.{ℕ, zero, suc, ◌+◌, ◌-◌, ◌≤◌, ◌<◌, List, [], ◌∷◌, eqb, get_or, Result, Ok, Err, is_ok}
 use Rattle.std.proofs.Math.Path.{◌≡◌, refl, sym, ap}
 use Rattle.std.proofs.Common.{◌∙◌, subst, true≢false, arith, length-append}
 use Rattle.std.proofs.Math.Bool.{Bool, true, false, cond}
@@ -11,8 +11,9 @@ use Rattle.std.proofs.Math.ListN.{length}
 use Rattle.wire.specs.Be.{Bytes}
 use Rattle.wire.specs.Refusal.{on_zero, on-done, on-refused}
 use Rattle.frame.specs.declared.Message.{Message}
-use Rattle.frame.specs.declared.FrameRead.{FrameRead}
-use Rattle.frame.specs.declared.FrameRead.TheVariants as read
+use Rattle.refused.specs.declared.Refusal.{Refusal}
+use Rattle.refused.specs.Refusal.{number_of, refused}
+use Rattle.refused.proofs.Laws.{number-positive}
 use Rattle.frame.specs.Frame.{read_frame}
 use Rattle.slot.specs.Blocks.{block, le-or-lt}
 use Rattle.slot.specs.declared.ForeignAnnounceMessage.{ForeignAnnounceMessage}
@@ -36,27 +37,21 @@ use Rattle.ageing.specs.StoreView.{aged_view, aged-length}
 use Rattle.fresh.specs.Fresh.{begun}
 use Rattle.fresh.specs.View.{begun-length, begun_view, begun-sound}
 use Rattle.foreign_master.specs.declared.Tallies.{Tallies}
-use Rattle.foreign_master.specs.declared.Answer.{Answer}
-use Rattle.foreign_master.specs.declared.Answer.TheVariants.{Done, Refused}
 use Rattle.foreign_master.specs.Calls.{tallies_of, answer_to, answer_in, exit_in, fresh_answer, fresh_exit, held_of, frame_of, register_call, taken_in, register_answer, register_exit, age_exit}
-use Rattle.foreign_master.proofs.Steps.{refused-later, done-both, whole_frame, refused-some, one_less}
+use Rattle.foreign_master.proofs.Steps.{refused-later, done-both, whole_frame, one_less}
 
 -- ---- a refusal changes no word
 
 module _ (s : List ℕ) (c : Call ForeignAnnounceMessage) (work : List ℕ) where
-  pub refused-exit : (n : ℕ) → answer_in s c ≡ Refused n → exit_in s c work ≡ s
+  pub refused-exit : (e : Refusal) → answer_in s c ≡ Err e → exit_in s c work ≡ s
   unfolding answer_in exit_in answer_to
-  refused-exit n e = outer (store_refusal s) e
+  refused-exit r e = outer (store_refusal s) e
     where
-      is_done : Answer → Bool
-      is_done (Done t) = true
-      is_done (Refused n) = false
-
-      inner : (k : ℕ) → on_zero k (Done (tallies_of (turns reads c (book_of s)))) Refused ≡ Refused n → on_zero k work (λ _. s) ≡ s
-      inner zero q = absurd (true≢false (ap is_done q))
+      inner : (k : ℕ) → on_zero k (Ok (tallies_of (turns reads c (book_of s)))) refused ≡ Err r → on_zero k work (λ _. s) ≡ s
+      inner zero q = absurd (true≢false (ap is_ok q))
       inner (suc k) q = refl
 
-      outer : (k : ℕ) → on_zero k (on_zero (number c (turns reads c (book_of s))) (Done (tallies_of (turns reads c (book_of s)))) Refused) Refused ≡ Refused n
+      outer : (k : ℕ) → on_zero k (on_zero (number c (turns reads c (book_of s))) (Ok (tallies_of (turns reads c (book_of s)))) refused) refused ≡ Err r
           → on_zero k (on_zero (number c (turns reads c (book_of s))) work (λ _. s)) (λ _. s) ≡ s
       outer zero q = inner (number c (turns reads c (book_of s))) q
       outer (suc k) q = refl
@@ -114,33 +109,29 @@ bad-number S n k q (P ∷ Ps) e =
 -- what an accepted frame holds is found in the book: on its port, as the last message of its sender
 pub record Taken (s : List ℕ) (p : ℕ) (frame t : List ℕ) : Type 0 where
   pub message : Message
-  pub was : read_frame frame ≡ read.Done message
+  pub was : read_frame frame ≡ Ok message
   pub found : FoundAt reads 1 p (held_of message.announce) (book_of s).ports (book_of t).ports
 
 -- an answer that is done tells that nothing was refused
-done-zero : (s : List ℕ) → store_refusal s ≡ 0 → (c : Call ForeignAnnounceMessage) (t : Tallies) → answer_in s c ≡ Done t → number c (turns reads c (book_of s)) ≡ 0
+done-zero : (s : List ℕ) → store_refusal s ≡ 0 → (c : Call ForeignAnnounceMessage) (t : Tallies) → answer_in s c ≡ Ok t → number c (turns reads c (book_of s)) ≡ 0
 unfolding answer_in answer_to
-done-zero s checks c t e = by_number (number c (turns reads c (book_of s))) (sym (on-done (store_refusal s) _ Refused checks) ∙ e)
+done-zero s checks c t e = by_number (number c (turns reads c (book_of s))) (sym (on-done (store_refusal s) _ refused checks) ∙ e)
   where
-    is_done : Answer → Bool
-    is_done (Done t) = true
-    is_done (Refused n) = false
-
-    by_number : (k : ℕ) → on_zero k (Done (tallies_of (turns reads c (book_of s)))) Refused ≡ Done t → k ≡ 0
+    by_number : (k : ℕ) → on_zero k (Ok (tallies_of (turns reads c (book_of s)))) refused ≡ Ok t → k ≡ 0
     by_number zero q = refl
-    by_number (suc k) q = absurd (true≢false (sym (ap is_done q)))
+    by_number (suc k) q = absurd (true≢false (sym (ap is_ok q)))
 
 ports-length : (s : List ℕ) → length (book_of s).ports ≡ get_or s 0 0
 unfolding book_of
 ports-length s = length-tab (get_or s 0 0) (λ q. port_of (block s (port_at q) port_words))
 
 module _ (s frame : List ℕ) (checks : store_refusal s ≡ 0) (bytes : Bytes frame) (p : ℕ) where
-  taken-done : (m : Message) → read_frame frame ≡ read.Done m → number (register_call p frame) (turns reads (register_call p frame) (book_of s)) ≡ 0
+  taken-done : (m : Message) → read_frame frame ≡ Ok m → number (register_call p frame) (turns reads (register_call p frame) (book_of s)) ≡ 0
       → Taken s p frame (register_exit s p frame) × After s (register_call p frame) (register_exit s p frame)
   taken-done m was done =
       let held : ForeignAnnounceMessage = held_of m.announce in
       let S = checked s checks in
-      let call-is : register_call p frame ≡ register p (announce held) = ap (λ (f : FrameRead). register p (frame_of f)) was in
+      let call-is : register_call p frame ≡ register p (announce held) = ap (λ (f : Result Message Refusal). register p (frame_of f)) was in
       let zero_is : number (register p (announce held)) (turns reads (register p (announce held)) (book_of s)) ≡ 0 =
       ap (λ (c : Call ForeignAnnounceMessage). number c (turns reads c (book_of s))) (sym call-is) ∙ done in
       let F = book-found reads p held (book_of s) zero_is in
@@ -155,7 +146,7 @@ module _ (s frame : List ℕ) (checks : store_refusal s ≡ 0) (bytes : Bytes fr
       ∙ number-q in
       let w = whole_frame frame m bytes was in
       let words_are : taken_in s p (frame_of (read_frame frame)) ≡ registered_in s q held =
-      ap (λ (f : FrameRead). taken_in s p (frame_of f)) was ∙ ap (λ (k : ℕ). registered_in s k held) (ap (λ (k : ℕ). k - 1) F.place ∙ one_less q) in
+      ap (λ (f : Result Message Refusal). taken_in s p (frame_of f)) was ∙ ap (λ (k : ℕ). registered_in s k held) (ap (λ (k : ℕ). k - 1) F.place ∙ one_less q) in
       let book-is : book_of (registered_in s q held) ≡ after reads (register_call p frame) (book_of s) =
       registered_in_view s S.room S.sound q below held w refl accepted
       ∙ ap (λ (c : Call ForeignAnnounceMessage). after reads c (book_of s)) (ap (λ (k : ℕ). register k (announce held)) (sym F.place) ∙ sym call-is) in
@@ -165,13 +156,16 @@ module _ (s frame : List ℕ) (checks : store_refusal s ≡ 0) (bytes : Bytes fr
       ap (λ (B : Book ForeignAnnounceMessage). B.ports) (ap (λ (c : Call ForeignAnnounceMessage). after reads c (book_of s)) (sym call-is) ∙ sym A.book) in
       (record { message = m; was = was; found = subst (FoundAt reads 1 p held (book_of s).ports) ports-are F }, A)
 
-  taken-any : (r : FrameRead) → read_frame frame ≡ r → number (register_call p frame) (turns reads (register_call p frame) (book_of s)) ≡ 0
+  taken-any : (r : Result Message Refusal) → read_frame frame ≡ r → number (register_call p frame) (turns reads (register_call p frame) (book_of s)) ≡ 0
       → Taken s p frame (register_exit s p frame) × After s (register_call p frame) (register_exit s p frame)
   unfolding number turns
-  taken-any (read.Done m) was done = taken-done m was done
-  taken-any (read.Refused n) was done =
-      absurd (refused-some frame n was
-      (bad-number (book_of s).site n 1 p (book_of s).ports (sym (ap (λ (f : FrameRead). answer_from 1 p (turns_from reads (book_of s).site 1 (register p (frame_of f)) (book_of s).ports)) was) ∙ done)))
+  taken-any (Ok m) was done = taken-done m was done
+  taken-any (Err e) was done =
+      absurd (omega (
+        arith,
+        number-positive e,
+        bad-number (book_of s).site (number_of e) 1 p (book_of s).ports (sym (ap (λ (f : Result Message Refusal). answer_from 1 p (turns_from reads (book_of s).site 1 (register p (frame_of f)) (book_of s).ports)) was) ∙ done),
+      ))
 
   -- registration
   pub registered : After s (register_call p frame) (register_exit s p frame)
@@ -184,7 +178,7 @@ module _ (s frame : List ℕ) (checks : store_refusal s ≡ 0) (bytes : Bytes fr
       refl
 
   -- an accepted frame's message is found again, with the values of its frame
-  pub accepted-found : (t : Tallies) → register_answer s p frame ≡ Done t → Taken s p frame (register_exit s p frame)
+  pub accepted-found : (t : Tallies) → register_answer s p frame ≡ Ok t → Taken s p frame (register_exit s p frame)
   accepted-found t e = (taken-any (read_frame frame) refl (done-zero s checks (register_call p frame) t e)).0
 
 -- ---- fresh start

@@ -1,11 +1,11 @@
 -- What the three calls answer, and every word of the store afterwards. A refusal changes no word.
 -- Assumes nothing.
-use Rattle.std.specs.Prelude.{ℕ, ◌-◌, cond, List, ltb, length}
-use Rattle.std.proofs.Math.Option.{Option, none, some}
+use Rattle.std.specs.Prelude.{ℕ, ◌-◌, cond, List, ltb, length, Result, Ok, Err}
 use Rattle.wire.specs.Refusal.{on_zero}
 use Rattle.announce.specs.declared.AnnounceMessage.{AnnounceMessage}
-use Rattle.frame.specs.declared.FrameRead.{FrameRead}
-use Rattle.frame.specs.declared.FrameRead.TheVariants as read
+use Rattle.refused.specs.declared.Refusal.{Refusal}
+use Rattle.refused.specs.Refusal.{number_of, refused}
+use Rattle.frame.specs.declared.Message.{Message}
 use Rattle.frame.specs.Frame.{read_frame}
 use Rattle.slot.specs.declared.ForeignAnnounceMessage.{ForeignAnnounceMessage}
 use Rattle.history.specs.Port.{Site, Turn, Frame, bad, announce}
@@ -17,15 +17,8 @@ use Rattle.admission.specs.Admit.{registered_in}
 use Rattle.ageing.specs.Age.{aged_store}
 use Rattle.fresh.specs.Fresh.{begun}
 use Rattle.foreign_master.specs.declared.Tallies.{Tallies}
-use Rattle.foreign_master.specs.declared.Answer.{Answer}
-use Rattle.foreign_master.specs.declared.Answer.TheVariants.{Done, Refused}
 
 -- ---- the answers
-
--- paper 01's number of each answer, 0 for done, and the tallies that it holds
-abbrev pub answer_of : Answer → ℕ × Option Tallies
-answer_of (Done t) = (0, some t)
-answer_of (Refused n) = (n, none)
 
 -- the tallies count the messages that the ports' turns name
 abbrev pub tallies_of : List (Turn ForeignAnnounceMessage) → Tallies
@@ -33,12 +26,12 @@ tallies_of Ts =
     record { evicted = total (λ T. T.evicted) Ts; aged_out = total (λ T. T.aged_out) Ts; consumed = total (λ T. T.consumed) Ts }
 
 -- what a call answers over a book
-unfoldable pub answer_to : Call ForeignAnnounceMessage → Book ForeignAnnounceMessage → Answer
-answer_to c B = on_zero (number c (turns reads c B)) (Done (tallies_of (turns reads c B))) Refused
+unfoldable pub answer_to : Call ForeignAnnounceMessage → Book ForeignAnnounceMessage → Result Tallies Refusal
+answer_to c B = on_zero (number c (turns reads c B)) (Ok (tallies_of (turns reads c B))) refused
 
 -- over a store: 1 and 16 come first
-unfoldable pub answer_in : List ℕ → Call ForeignAnnounceMessage → Answer
-answer_in s c = on_zero (store_refusal s) (answer_to c (book_of s)) Refused
+unfoldable pub answer_in : List ℕ → Call ForeignAnnounceMessage → Result Tallies Refusal
+answer_in s c = on_zero (store_refusal s) (answer_to c (book_of s)) refused
 
 -- ---- every word afterwards: where nothing is refused, those of the work
 
@@ -60,9 +53,9 @@ abbrev pub held_of : AnnounceMessage → ForeignAnnounceMessage
 held_of a = record { message = a; age = 0; receipt = 0 }
 
 -- the frame as it was read
-abbrev pub frame_of : FrameRead → Frame ForeignAnnounceMessage
-frame_of (read.Done m) = announce (held_of m.announce)
-frame_of (read.Refused n) = bad n
+abbrev pub frame_of : Result Message Refusal → Frame ForeignAnnounceMessage
+frame_of (Ok m) = announce (held_of m.announce)
+frame_of (Err e) = bad (number_of e)
 
 abbrev pub register_call : ℕ → List ℕ → Call ForeignAnnounceMessage
 register_call port frame = register port (frame_of (read_frame frame))
@@ -72,7 +65,7 @@ abbrev pub taken_in : List ℕ → ℕ → Frame ForeignAnnounceMessage → List
 taken_in s port (bad n) = s
 taken_in s port (announce m) = registered_in s (port - 1) m
 
-abbrev pub register_answer : List ℕ → ℕ → List ℕ → Answer
+abbrev pub register_answer : List ℕ → ℕ → List ℕ → Result Tallies Refusal
 register_answer s port frame = answer_in s (register_call port frame)
 
 abbrev pub register_exit : List ℕ → ℕ → List ℕ → List ℕ
@@ -80,7 +73,7 @@ register_exit s port frame = exit_in s (register_call port frame) (taken_in s po
 
 -- ---- age
 
-abbrev pub age_answer : List ℕ → ℕ → Answer
+abbrev pub age_answer : List ℕ → ℕ → Result Tallies Refusal
 age_answer s step = answer_in s (age step)
 
 abbrev pub age_exit : List ℕ → ℕ → List ℕ

@@ -8,71 +8,28 @@ mod lengths;
 mod order;
 mod real;
 
-use vectors::tally::Tally;
-
-#[derive(Clone, Copy)]
-enum Group {
-    Given,
-    GivenTlv,
-    LengthField,
-    OddLengthField,
-    Typed,
-    Order,
-    Large,
-    Many,
-    Real,
-    Cut,
-    Ignored,
-    Again,
-}
-
-// Whether the case of a number is right.
-fn right(group: Group, n: u64) -> bool {
-    match group {
-        Group::Given => lengths::given(n),
-        Group::GivenTlv => lengths::given_tlv(n),
-        Group::LengthField => lengths::length_field(n),
-        Group::OddLengthField => lengths::odd_length_field(n),
-        Group::Typed => order::typed(n),
-        Group::Order => order::order(n),
-        Group::Large => large::read(n),
-        Group::Many => large::many(n),
-        Group::Real => real::frame(n),
-        Group::Cut => real::damaged(n),
-        Group::Ignored => again::ignored(n),
-        Group::Again => again::again(n),
-    }
-}
-
-// Runs the cases of a group from 0 on, and writes its line.
-fn run(name: &[u8], group: Group, cases: u64) {
-    let mut t = Tally { cases: 0, wrong: 0 };
-    for n in 0..cases {
-        t = t.with(right(group, n));
-    }
-    t.report(name);
-}
+use vectors::tally;
 
 fn lengths_and_types() {
-    run(b"lengths 0 to 70", Group::Given, 71);
-    run(b"lengths 0 to 70 of a frame of 70", Group::GivenTlv, 71);
-    run(b"length field, every value", Group::LengthField, 65536);
-    run(
+    tally::run(b"lengths 0 to 70", 71, lengths::given);
+    tally::run(b"lengths 0 to 70 of a frame of 70", 71, lengths::given_tlv);
+    tally::run(b"length field, every value", 65536, lengths::length_field);
+    tally::run(
         b"length field over an odd TLV, every value",
-        Group::OddLengthField,
         65536,
+        lengths::odd_length_field,
     );
-    run(b"types at six length fields", Group::Typed, 192);
-    run(b"the order of the checks", Group::Order, 30);
+    tally::run(b"types at six length fields", 192, order::typed);
+    tally::run(b"the order of the checks", 30, order::order);
 }
 
 fn whole_frames() {
-    run(b"longest messages", Group::Large, 16);
-    run(b"10,912 entries", Group::Many, 10);
-    run(b"real announce frames", Group::Real, 5);
-    run(b"real announce frames, cut", Group::Cut, 380);
-    run(b"bits that are ignored", Group::Ignored, 256);
-    run(b"read, and written again twice", Group::Again, 6);
+    tally::run(b"longest messages", 16, large::read);
+    tally::run(b"10,912 entries", 10, large::many);
+    tally::run(b"real announce frames", 5, real::frame);
+    tally::run(b"real announce frames, cut", 380, real::damaged);
+    tally::run(b"bits that are ignored", 256, again::ignored);
+    tally::run(b"read, and written again twice", 6, again::again);
 }
 
 fn main() {

@@ -3,6 +3,7 @@
 // timeSource 0x20) and a boundary clock behind it, over Ethernet but for one. They were recorded at the other end of the link.
 use announce::{AnnounceMessage, ClockQuality};
 use header::{Header, PortIdentity};
+use refused::Refusal;
 use tlv::TlvRead;
 use vectors::{frames, framing, room};
 
@@ -82,12 +83,11 @@ const GRANDMASTER_IDENTITY: u64 = 0x0200_00FF_FE00_0001;
 const BOUNDARY_IDENTITY: u64 = 0x0200_00FF_FE00_0002;
 
 fn header_of(clock: u64, port: u16, sequence: u16, traceable: bool) -> Header {
-    let source = PortIdentity {
+    let mut h = frames::f_header(sequence);
+    h.source_port_identity = PortIdentity {
         clock_identity: clock,
         port_number: port,
     };
-    let mut h = frames::f_header(sequence);
-    h.source_port_identity = source;
     h.current_utc_offset_valid = traceable;
     h.ptp_timescale = traceable;
     h.time_tracable = traceable;
@@ -131,73 +131,62 @@ fn boundary(sequence: u16, traceable: bool) -> AnnounceMessage {
 // Whether a list is one path trace of so many bytes.
 fn path(tlvs: &[u8], size: usize) -> bool {
     match tlv_set::list_entry(tlvs, 0) {
-        TlvRead::Entry {
-            tlv_type,
-            start,
-            len,
-            next,
-        } => (tlv_type == 8) & (start == 4) & (len == size) & (next.at == tlvs.len()),
-        TlvRead::End => false,
-        TlvRead::Refused(_) => false,
+        Ok(
+            TlvRead::Entry {
+                tlv_type,
+                start,
+                len,
+                next,
+            },
+        ) => tlv_type == 8 && start == 4 && len == size && next.at == tlvs.len(),
+        _ => false,
     }
-}
-
-// The TLVs of a frame up to an end.
-fn tlvs_of(s: &[u8], end: usize) -> &[u8] {
-    if s.len() < end {
-        return s;
-    }
-    if end < 64 {
-        return s;
-    }
-    &s[64..end]
 }
 
 // Whether a frame reads as wanted, with one path trace, and written again over zeros is what it was up to its end.
 fn whole(s: &[u8], want: AnnounceMessage, size: usize, end: usize) -> bool {
     let mut target = [0u8; 96];
-    let answer = framing::rewrite(s, &mut target);
-    framing::answers(s, 0, want, end)
-        & path(tlvs_of(s, end), size)
-        & (answer == 0)
-        & room::holds(&target, framing::first(s, end), 0)
+    framing::answers(s, Ok(()), want, end)
+        && s.get(64..end).is_some_and(|tlvs| path(tlvs, size))
+        && framing::rewrite(s, &mut target).is_ok()
+        && room::holds(&target, framing::first(s, end), 0)
+}
+
+// A case of a frame, of what it says, of the size of its path and of its end.
+fn recorded<F: Fn(&[u8], AnnounceMessage, usize, usize) -> bool>(n: u64, case: F) -> bool
+    requires { F.IsAlwaysCallable case }
+{
+    match n {
+        0 => case(&GRANDMASTER, grandmaster(true), 8, 76),
+        1 => case(&BOUNDARY, boundary(19, true), 16, 84),
+        2 => case(&ALONE, alone(), 8, 76),
+        3 => case(&CHOSEN, boundary(2, false), 8, 76),
+        _ => case(&PADDED, grandmaster(false), 8, 76),
+    }
 }
 
 pub fn frame(n: u64) -> bool {
-    match n {
-        0 => whole(&GRANDMASTER, grandmaster(true), 8, 76),
-        1 => whole(&BOUNDARY, boundary(19, true), 16, 84),
-        2 => whole(&ALONE, alone(), 8, 76),
-        3 => whole(&CHOSEN, boundary(2, false), 8, 76),
-        _ => whole(&PADDED, grandmaster(false), 8, 76),
-    }
+    recorded(n, whole)
 }
 
 // A frame cut to its first bytes, and the whole with a length field that says as many.
 fn cut(s: &[u8], n: u64, want: AnnounceMessage) -> bool {
     let mut frame = [0u8; 96];
-    if 96 < s.len() {
+    if frame.len() < s.len() {
         return false;
     }
     wire::put_bytes(&mut frame, 0, s);
     wire::put_be(&mut frame, 2, 2, n);
-    let number: u8 = match n {
-        0..=33 => 3,
-        64 => 0,
-        _ => 1,
+    let answer = match n {
+        0..=33 => Err(Refusal::LengthField),
+        64 => Ok(()),
+        _ => Err(Refusal::Short),
     };
-    framing::answers(framing::first(s, n as usize), 1, want, 0)
-        & framing::answers(&frame, number, want, 64)
+    framing::answers(framing::first(s, n as usize), Err(Refusal::Short), want, 0)
+        && framing::answers(&frame, answer, want, 64)
 }
 
 // Each number of bytes below 76.
 pub fn damaged(n: u64) -> bool {
-    let size = n % 76;
-    match n / 76 {
-        0 => cut(&GRANDMASTER, size, grandmaster(true)),
-        1 => cut(&BOUNDARY, size, boundary(19, true)),
-        2 => cut(&ALONE, size, alone()),
-        3 => cut(&CHOSEN, size, boundary(2, false)),
-        _ => cut(&PADDED, size, grandmaster(false)),
-    }
+    recorded(n / 76, |frame, want, _, _| cut(frame, n % 76, want))
 }

@@ -1,7 +1,7 @@
 -- Which frames are accepted: an announce whose length field says 64 bytes or more, no more than are given, and whose TLVs are even
 -- entries of which the last is not empty.
 -- Assumes nothing.
-use Rattle.std.specs.Prelude.{ℕ, zero, suc, ◌+◌, ◌-◌, ◌≤◌, ◌≡◌, refl, List, length, take, drop}
+use Rattle.std.specs.Prelude.{ℕ, zero, suc, ◌+◌, ◌-◌, ◌≤◌, ◌≡◌, refl, List, length, take, drop, Ok}
 use Rattle.std.proofs.Common.{sym, ap, ◌∙◌, arith}
 use Rattle.wire.specs.Be.{Bytes, put}
 use Rattle.wire.proofs.BeLaws.{bytes-part, length-put, part-put-before}
@@ -14,23 +14,23 @@ use Rattle.announce.proofs.RoundTrip.{content-kept}
 use Rattle.tlv.specs.Tlv.{check_list}
 use Rattle.tlv_entries.proofs.Entries.{taken, taken_back}
 use Rattle.frame.specs.declared.Message.{Message}
-use Rattle.frame.specs.declared.FrameRead.TheVariants.{Done, Refused}
+use Rattle.refused.specs.Refusal.{refused}
 use Rattle.frame.specs.Frame.{size_at, tlvs_at, frame_refusal, message_at, read_frame}
 use Rattle.frame.proofs.Laws.{frame_passed, frame_passes, read_done}
 use Rattle.frame_laws.specs.Accepted.{Accepted}
 
 -- such a frame is read
-pub accepts : (s : List ℕ) → Accepted s → read_frame s ≡ Done (message_at s)
+pub accepts : (s : List ℕ) → Accepted s → read_frame s ≡ Ok (message_at s)
 accepts s a =
     sym (read_done s (frame_passes s (record { front = record { type = a.type; long = a.long; there = a.there }; tlvs = taken (tlvs_at s) a.tlvs })))
 
 -- an answer that is no refusal had no refusal
-done_none : (n : ℕ) (x m : Message) → on_zero n (Done x) Refused ≡ Done m → (n ≡ 0) × (m ≡ x)
+done_none : (n : ℕ) (x m : Message) → on_zero n (Ok x) refused ≡ Ok m → (n ≡ 0) × (m ≡ x)
 done_none zero x m e = (refl, let same : m ≡ x = cc in same)
 done_none (suc n) x m e = absurd (let z : ◌≡◌ {A = ℕ} 0 1 = cc in omega arith)
 
 -- and a frame that is read is such a frame, with these values
-pub accepted : (s : List ℕ) (m : Message) → Bytes s → read_frame s ≡ Done m → Accepted s × (m ≡ message_at s)
+pub accepted : (s : List ℕ) (m : Message) → Bytes s → read_frame s ≡ Ok m → Accepted s × (m ≡ message_at s)
 unfolding read_frame
 accepted s m b e =
     let d = done_none (frame_refusal s) (message_at s) m e in
@@ -45,7 +45,7 @@ accepted s m b e =
     )
 
 -- its TLVs are within the frame
-pub tlvs-within : (s : List ℕ) (m : Message) → read_frame s ≡ Done m → (m.tlv_start ≤ m.tlv_end) × (m.tlv_end ≤ length s)
+pub tlvs-within : (s : List ℕ) (m : Message) → read_frame s ≡ Ok m → (m.tlv_start ≤ m.tlv_end) × (m.tlv_end ≤ length s)
 unfolding read_frame
 tlvs-within s m e =
     let d = done_none (frame_refusal s) (message_at s) m e in
@@ -55,8 +55,8 @@ tlvs-within s m e =
 -- ---- what follows the message
 
 -- bytes that are put after an accepted message leave the answer as it was
-pub later-ignored : (s : List ℕ) (m : Message) (k : ℕ) (bs : List ℕ) → read_frame s ≡ Done m → size_at s ≤ k → k + length bs ≤ length s
-    → read_frame (put s k bs) ≡ Done m
+pub later-ignored : (s : List ℕ) (m : Message) (k : ℕ) (bs : List ℕ) → read_frame s ≡ Ok m → size_at s ≤ k → k + length bs ≤ length s
+    → read_frame (put s k bs) ≡ Ok m
 unfolding read_frame
 later-ignored s m k bs e h le =
     let d = done_none (frame_refusal s) (message_at s) m e in
@@ -76,5 +76,5 @@ later-ignored s m k bs e h le =
       };
       tlvs = ap check_list tlvs ∙ p.tlvs;
     })))
-    ∙ (λ i. Done (record { announce = content i; tlv_start = 64; tlv_end = size i }))
-    ∙ ap Done (sym d.1)
+    ∙ (λ i. Ok (record { announce = content i; tlv_start = 64; tlv_end = size i }))
+    ∙ ap Ok (sym d.1)

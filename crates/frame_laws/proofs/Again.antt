@@ -1,6 +1,6 @@
 -- A frame that was read, written again: once, and a second time.
 -- Assumes nothing.
-use Rattle.std.specs.Prelude.{ℕ, ◌+◌, ◌-◌, ◌≤◌, ◌≡◌, true, drop}
+use Rattle.std.specs.Prelude.{ℕ, ◌+◌, ◌-◌, ◌≤◌, ◌≡◌, true, drop, Ok}
 use Rattle.std.proofs.Math.Path.{sym, ap, ap₂}
 use Rattle.std.proofs.Common.{◌∙◌, subst, arith, le-leb, length-drop, length-take-le, take-add, drop-drop}
 use mathlib.Core.List.{List, ◌++◌, append_assoc}
@@ -15,11 +15,10 @@ use Rattle.header.proofs.Again.{part, cleared, header-again}
 use Rattle.header.proofs.RoundTrip as header
 use Rattle.announce.specs.declared.AnnounceMessage.{AnnounceMessage}
 use Rattle.announce.specs.Wire.{announce_of, announce_with}
-use Rattle.announce.proofs.Message.{written, content-again, reserved_there}
+use Rattle.announce.proofs.Message.{content-again, reserved_there}
 use Rattle.announce.proofs.RoundTrip as announce
 use Rattle.tlv_entries.proofs.Entries.{whole}
 use Rattle.frame.specs.declared.Message.{Message}
-use Rattle.frame.specs.declared.FrameRead.TheVariants.{Done}
 use Rattle.frame.specs.Frame.{size_at, tlvs_at, message_at, read_frame}
 use Rattle.frame_writer.specs.Frame.{fits_of, with_frame, write_answer, write_exit}
 use Rattle.frame_writer.specs.Laws.{fit-by-tlvs}
@@ -94,19 +93,19 @@ module _ (s target : List ℕ) (b : Bytes s) (bt : Bytes target) (acc : Accepted
       frame_laid target a tlvs wide ∙ ap (put target 0) (bytes-again r ∙ ap (λ (l : List ℕ). cleared s 5 ++ (part s 34 12 ++ (l ++ part s 47 (size_at s - 47)))) byte)
 
   -- and reading it gives the same message with the same TLVs
-  read_again : read_frame again ≡ Done (message_at s)
+  read_again : read_frame again ≡ Ok (message_at s)
   read_again =
       let size : length tlvs + 64 ≤ 65535 = omega (arith, tlvs-length, be_at-bound s 2 2 b) in
       accepts again (out-accepted target bt a tlvs wide size wh wa acc.tlvs)
-      ∙ ap Done (out-message target bt a tlvs wide size wh wa)
-      ∙ (λ i. Done (record { announce = a; tlv_start = 64; tlv_end = tlvs-length i }))
+      ∙ ap Ok (out-message target bt a tlvs wide size wh wa)
+      ∙ (λ i. Ok (record { announce = a; tlv_start = 64; tlv_end = tlvs-length i }))
 
   tlvs-again : tlvs_at again ≡ tlvs
   tlvs-again = out-tlvs target bt a tlvs wide (omega (arith, tlvs-length, be_at-bound s 2 2 b)) wh wa
 
 -- of the calls: a frame that was read is written again into any target with room for it. The ignored bits and bytes are cleared, control
 -- is 5, byte 46 is as it lay in the target, and what lies past the message stays
-pub frame_again : (s target : List ℕ) (m : Message) → Bytes s → Bytes target → read_frame s ≡ Done m → size_at s ≤ length target
+pub frame_again : (s target : List ℕ) (m : Message) → Bytes s → Bytes target → read_frame s ≡ Ok m → size_at s ≤ length target
     → (write_answer target m.announce (tlvs_at s) ≡ 0)
     × (write_exit target m.announce (tlvs_at s) ≡ put target 0 (cleared s 5 ++ (part s 34 12 ++ (part target 46 1 ++ part s 47 (size_at s - 47)))))
 frame_again s target m b bt e room =
@@ -118,15 +117,15 @@ frame_again s target m b bt e room =
     (sym r.1) (t.0, t.1 ∙ written-again s target b bt r.0 room)
 
 -- a second time changes nothing: that target is read as the same message with the same TLVs, and writing those into it again leaves it as it is
-pub frame_again-twice : (s target : List ℕ) (m : Message) → Bytes s → Bytes target → read_frame s ≡ Done m → size_at s ≤ length target
-    → (read_frame (write_exit target m.announce (tlvs_at s)) ≡ Done m)
+pub frame_again-twice : (s target : List ℕ) (m : Message) → Bytes s → Bytes target → read_frame s ≡ Ok m → size_at s ≤ length target
+    → (read_frame (write_exit target m.announce (tlvs_at s)) ≡ Ok m)
     × (tlvs_at (write_exit target m.announce (tlvs_at s)) ≡ tlvs_at s)
     × (write_exit (write_exit target m.announce (tlvs_at s)) m.announce (tlvs_at s) ≡ write_exit target m.announce (tlvs_at s))
 frame_again-twice s target m b bt e room =
     let r = accepted s m b e in
     let t = taken-again s target b bt r.0 room in
     subst
-    (λ (x : Message). (read_frame (write_exit target x.announce (tlvs_at s)) ≡ Done x)
+    (λ (x : Message). (read_frame (write_exit target x.announce (tlvs_at s)) ≡ Ok x)
     × (tlvs_at (write_exit target x.announce (tlvs_at s)) ≡ tlvs_at s)
     × (write_exit (write_exit target x.announce (tlvs_at s)) x.announce (tlvs_at s) ≡ write_exit target x.announce (tlvs_at s)))
     (sym r.1) (

@@ -1,6 +1,6 @@
 -- What is written is read back, and what is read is written again.
 -- Assumes nothing.
-use Rattle.std.specs.Prelude.{ℕ, ◌+◌, ◌-◌, ◌%◌, ◌≤◌, ◌≡◌, refl, true, drop}
+use Rattle.std.specs.Prelude.{ℕ, ◌+◌, ◌-◌, ◌%◌, ◌≤◌, ◌≡◌, refl, true, drop, Ok}
 use Rattle.std.proofs.Math.Path.{sym, ap, ap₂}
 use Rattle.std.proofs.Common.{◌∙◌, subst, arith, leb-true, length-append}
 use mathlib.Core.List.{List, ◌++◌, append_assoc}
@@ -19,12 +19,11 @@ use Rattle.announce.specs.Wire.{content_at, content_widths, content_bytes, reser
 use Rattle.announce.proofs.Message.{with_message, written, wired-back, content-back, reserved_there}
 use Rattle.announce.proofs.RoundTrip as announce
 use Rattle.tlv_entries.specs.Entries.{Taken}
-use Rattle.frame.specs.declared.FrameRead.TheVariants.{Done}
 use Rattle.frame.specs.Frame.{size_at, tlvs_at, message_at, read_frame}
 use Rattle.frame_writer.specs.Frame.{fits_of, with_frame, write_answer, write_exit}
 use Rattle.frame_writer.specs.Laws.{fits-back, fits-size}
 use Rattle.frame_laws.specs.Accepted.{Accepted}
-use Rattle.frame_laws.proofs.Accepted.{accepts, accepted}
+use Rattle.frame_laws.proofs.Accepted.{accepts}
 
 -- ---- the bytes of a message
 
@@ -118,7 +117,7 @@ whole-content a tlvs ty e = record { seconds = leb-true _ _ (fits-back a tlvs e)
 -- of the calls: where the writer answers 0, the reader gives back what was written, given that the last TLV is not empty
 pub frame_trip : (s : List ℕ) (a : AnnounceMessage) (tlvs : List ℕ) → Bytes s → header.Typed a.header → announce.Typed a → Taken tlvs
     → write_answer s a tlvs ≡ 0
-    → (read_frame (write_exit s a tlvs) ≡ Done (record { announce = a; tlv_start = 64; tlv_end = length tlvs + 64 }))
+    → (read_frame (write_exit s a tlvs) ≡ Ok (record { announce = a; tlv_start = 64; tlv_end = length tlvs + 64 }))
     × (tlvs_at (write_exit s a tlvs) ≡ tlvs)
 frame_trip s a tlvs b th ta t e =
     let d = done (fits_of a tlvs) (length tlvs + 64) s (with_frame s a tlvs) e in
@@ -127,7 +126,7 @@ frame_trip s a tlvs b th ta t e =
     let wa = whole-content a tlvs ta d.fit in
     let out = with_frame s a tlvs in
     rw d.exit (
-      accepts out (out-accepted s b a tlvs d.room size wh wa t) ∙ ap Done (out-message s b a tlvs d.room size wh wa),
+      accepts out (out-accepted s b a tlvs d.room size wh wa t) ∙ ap Ok (out-message s b a tlvs d.room size wh wa),
       out-tlvs s b a tlvs d.room size wh wa,
     )
 

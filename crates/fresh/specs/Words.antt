@@ -1,6 +1,7 @@
 -- A list of words by its places: a test of all of them, the list again, and the words of a function put from the start on.
 -- Assumes nothing.
 use Rattle.std.specs.Prelude.{ℕ, zero, suc, ◌+◌, ◌≤◌, ◌<◌, ◌≡◌, refl, Bool, ◌&&◌, get_or}
+use Rattle.std.specs.List.{list_all}
 use Rattle.std.proofs.Math.Path.{sym, ap, ap₂}
 use Rattle.std.proofs.Common.{◌∙◌, arith, not-suc-le-zero, zero-add, add-one, drop-cons}
 use mathlib.Core.List.{List, [], ◌∷◌, ◌++◌, append_assoc}
@@ -15,6 +16,11 @@ use Rattle.book.specs.Below.{all, all-shift, tab, tab_snoc, length-tab}
 pub every-words : (f : ℕ → Bool) (xs : List ℕ) → every f xs ≡ all (length xs) (λ k. f (get_or xs k 0))
 every-words f [] = refl
 every-words f (x ∷ xs) = ap (λ (b : Bool). f x && b) (every-words f xs) ∙ sym (all-shift (λ k. f (get_or (x ∷ xs) k 0)) (length xs))
+
+-- a test of all words, as the library says it
+pub every-all : (f : ℕ → Bool) (xs : List ℕ) → list_all f xs ≡ every f xs
+every-all f [] = refl
+every-all f (x ∷ xs) = ap (λ (b : Bool). f x && b) (every-all f xs)
 
 -- the words at all places are the list
 pub tab-words : (xs : List ℕ) → tab (length xs) (λ k. get_or xs k 0) ≡ xs

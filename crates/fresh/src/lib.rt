@@ -11,33 +11,17 @@ ghost use Rattle.fresh.specs.Fresh.{site_with, rule_word, head_word, fresh_word,
 fn interval_right(interval: u64) -> bool
     ensures { result ≡ interval_right interval }
 {
-    if interval < 1 {
-        return false;
-    }
-    interval < 0x1000_0000_0000_0000
+    1 <= interval && interval < 0x1000_0000_0000_0000
 }
 
 // Whether a fresh start is taken: 1 to 8 intervals, each in range, and at most 16 acceptable masters.
 pub fn startable(listed: &[u64], intervals: &[u64]) -> bool
     ensures { result ≡ startable listed.now intervals.now }
 {
-    if intervals.len() < 1 {
+    if intervals.is_empty() || book::PORTS < intervals.len() || book::LISTED < listed.len() {
         return false;
     }
-    if book::PORTS < intervals.len() {
-        return false;
-    }
-    if book::LISTED < listed.len() {
-        return false;
-    }
-    let mut q = 0;
-    while q < intervals.len() {
-        if !interval_right(intervals[q]) {
-            return false;
-        }
-        q += 1;
-    }
-    true
+    intervals.iter().all(|interval| interval_right(*interval))
 }
 
 // A word of a list, 0 where it has none.
@@ -68,19 +52,13 @@ fn fresh_word(own: u64, any: bool, listed: &[u64], intervals: &[u64], w: usize) 
 fn head_word(own: u64, any: bool, listed: &[u64], ports: usize, w: usize) -> u64
     ensures { result ≡ head_word (site_with own any listed.now) ports w }
 {
-    if w == 0 {
-        return ports as u64;
+    match w {
+        0 => ports as u64,
+        1 => own,
+        2 => rule_word(any),
+        3 => listed.len() as u64,
+        _ => word_or_zero(listed, w - 4),
     }
-    if w == 1 {
-        return own;
-    }
-    if w == 2 {
-        return rule_word(any);
-    }
-    if w == 3 {
-        return listed.len() as u64;
-    }
-    word_or_zero(listed, w - 4)
 }
 
 // 0 where any master is accepted, 1 where those listed are.
@@ -98,9 +76,7 @@ pub fn begin(store: &mut [u64], own: u64, any: bool, listed: &[u64], intervals: 
     requires { store_words ≤ length store.old }
     ensures { store.new ≡ begun (site_with own any listed.now) intervals.now store.old }
 {
-    let mut w = 0;
-    while w < book::STORE_WORDS {
+    for w in 0..book::STORE_WORDS {
         store[w] = fresh_word(own, any, listed, intervals, w);
-        w += 1;
     }
 }

@@ -1,6 +1,6 @@
 -- What was read and is written again: the bytes that stood there, but for what the reader ignores and the control field.
 -- Assumes nothing.
-use Rattle.std.specs.Prelude.{ℕ, ◌+◌, ◌-◌, ◌*◌, ◌/◌, ◌%◌, ◌≤◌, ◌<◌, ◌≡◌, refl, Bool, true, false, List, [], ◌∷◌, ◌++◌, eqb, length, take, drop}
+use Rattle.std.specs.Prelude.{ℕ, ◌+◌, ◌-◌, ◌*◌, ◌/◌, ◌%◌, ◌≤◌, ◌<◌, ◌≡◌, refl, Bool, true, false, List, [], ◌∷◌, ◌++◌, eqb, length, take, drop, Some}
 use Rattle.std.proofs.Common.{zero-le, sym, ap, ap₂, ◌∙◌, arith}
 use Rattle.std.specs.Int.{w8, w64}
 use mir.ValLaws.{of_z-to_z}
@@ -13,7 +13,6 @@ use Rattle.wire.proofs.LayoutLaws.{length-bytes_of_all, bytes-fields, bytes-fiel
 use Rattle.wire.specs.Write.{wrote_0}
 use Rattle.header.specs.declared.Header.{Header}
 use Rattle.message_type.specs.declared.MessageType.{MessageType}
-use Rattle.message_type.specs.declared.TypeRead.TheVariants.{Known}
 use Rattle.message_type.specs.Types.{type_of, type_number, control_of, number-back}
 use Rattle.header.specs.Wire.{port_identity_at, header_with, header_of, header_at, read_header, header_widths, header_values, header_bytes, with_header, fits_of, write_answer, write_exit}
 use Rattle.header.proofs.Laws.{fitted}
@@ -89,13 +88,13 @@ bytes-again s control b le =
     (bytes-fields (1 ∷ []) s 33 b le))))))
 
 -- a header that was read, written again with the length it had
-pub header-again : (s : List ℕ) (t : MessageType) → Bytes s → 34 ≤ length s → type_of (be_at s 0 1 % 16) ≡ Known t
+pub header-again : (s : List ℕ) (t : MessageType) → Bytes s → 34 ≤ length s → type_of (be_at s 0 1 % 16) ≡ Some t
     → header_bytes (header_at s) t (be_at s 2 2) ≡ cleared s (control_of t)
 header-again s t b le e =
     ap (bytes_of_all header_widths) (values-again s (type_number t) (control_of t) b (number-back (be_at s 0 1 % 16) t e)) ∙ bytes-again s (control_of t) b le
 
 -- of the calls: the writer takes it, and any target then holds those bytes at its start and is else as it lay
-pub calls-again : (s target : List ℕ) (t : MessageType) → Bytes s → 34 ≤ length s → type_of (be_at s 0 1 % 16) ≡ Known t → 34 ≤ be_at s 2 2 → 34 ≤ length target
+pub calls-again : (s target : List ℕ) (t : MessageType) → Bytes s → 34 ≤ length s → type_of (be_at s 0 1 % 16) ≡ Some t → 34 ≤ be_at s 2 2 → 34 ≤ length target
     → (write_answer target (header_at s) (be_at s 2 2 - 34) ≡ 0)
     × (write_exit target (header_at s) t (be_at s 2 2 - 34) ≡ put target 0 (cleared s (control_of t)))
 unfolding with_header

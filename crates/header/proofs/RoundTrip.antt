@@ -1,6 +1,6 @@
 -- The header as a codec: reading what was written gives the same values.
 -- Assumes nothing.
-use Rattle.std.specs.Prelude.{ℕ, ◌+◌, ◌*◌, ◌/◌, ◌%◌, ◌^◌, ◌≤◌, ◌<◌, ◌≡◌, refl, cond, List, leb, length, get_or}
+use Rattle.std.specs.Prelude.{ℕ, ◌+◌, ◌*◌, ◌/◌, ◌%◌, ◌^◌, ◌≤◌, ◌<◌, ◌≡◌, refl, cond, List, leb, length, get_or, Result, Ok}
 use Rattle.std.proofs.Common.{zero-le, sym, ap, ◌∙◌, SFits}
 use native.Mathlib.Omega.{arith}
 use mir.Syntax.{w8, w64}
@@ -14,8 +14,9 @@ use Rattle.wire.proofs.LayoutLaws.{length-bytes_of_all, bytes-bytes_of_all, fiel
 use Rattle.wire.specs.Write.{done}
 use Rattle.header.specs.declared.Header.{Header}
 use Rattle.message_type.specs.declared.MessageType.{MessageType}
-use Rattle.header.specs.declared.HeaderRead.{HeaderRead}
-use Rattle.header.specs.declared.HeaderRead.TheVariants.{Done, Refused}
+use Rattle.header.specs.declared.DeserializedHeader.{DeserializedHeader}
+use Rattle.refused.specs.declared.Refusal.{Refusal}
+use Rattle.refused.specs.Refusal.{refused}
 use Rattle.message_type.specs.Types.{type_of, type_number, control_of, number-le, control-le, type-back}
 use Rattle.header.specs.Wire.{header_with, header_of, header_at, header_widths, header_values, header_bytes, bits6, bits7, with_header, read_type, read_header, fits_of, write_answer, write_exit}
 use Rattle.header.proofs.Laws.{fitting, read_0}
@@ -124,8 +125,8 @@ unfolding from_values fields_at header_widths
 by_layout s = refl
 
 -- and what it answers is told by the number of bytes and those numbers
-abbrev pub read_wired : ℕ → Wired → HeaderRead
-read_wired n w = cond (leb 34 n) (read_type (type_of w.type) w.header w.size) (Refused 1)
+abbrev pub read_wired : ℕ → Wired → Result DeserializedHeader Refusal
+read_wired n w = cond (leb 34 n) (read_type (type_of w.type) w.header w.size) (refused 1)
 
 pub by-wired : (s : List ℕ) → read_header s ≡ read_wired (length s) (wired_at s)
 unfolding read_header
@@ -150,17 +151,17 @@ length-with_header s h t size le = length-put s 0 (header_bytes h t size) (rw le
 
 -- reading a header that was written gives the same header, type and length
 pub header-trip : (s : List ℕ) (h : Header) (t : MessageType) (size : ℕ) → Whole h → size < 65536 → 34 ≤ length s
-    → read_header (with_header s h t size) ≡ Done (record { header = h; message_type = t; message_length = size })
+    → read_header (with_header s h t size) ≡ Ok (record { header = h; message_type = t; message_length = size })
 header-trip s h t size w hs le =
     let out = with_header s h t size in
     let e = wired-trip s h t size w hs in
     let room : 34 ≤ length out = omega (arith, length-with_header s h t size le) in
     let told = ap type_of (ap (λ (x : Wired). x.type) e) ∙ type-back t in
-    sym (read_0 out t room told) ∙ (λ i. Done (record { header = (e i).header; message_type = t; message_length = (e i).size }))
+    sym (read_0 out t room told) ∙ (λ i. Ok (record { header = (e i).header; message_type = t; message_length = (e i).size }))
 
 -- of the calls: where the writer answers 0, the reader gives back what was written
 pub calls-trip : (s : List ℕ) (h : Header) (t : MessageType) (content : ℕ) → Typed h → write_answer s h content ≡ 0
-    → read_header (write_exit s h t content) ≡ Done (record { header = h; message_type = t; message_length = content + 34 })
+    → read_header (write_exit s h t content) ≡ Ok (record { header = h; message_type = t; message_length = content + 34 })
 calls-trip s h t content ty e =
     let d = done (fits_of h content) 34 s (with_header s h t (content + 34)) e in
     let f = fitting _ _ _ _ d.fit in

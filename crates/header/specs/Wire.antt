@@ -1,7 +1,6 @@
 -- The header of IEEE 1588-2019, 13.3, as paper 01 lists its 34 bytes: what is read, and what is written.
 -- Assumes nothing.
-use Rattle.std.specs.Prelude.{ℕ, ◌+◌, ◌*◌, ◌/◌, ◌%◌, List, [], ◌∷◌, Bool, false, ◌&&◌, cond, leb, length, ℤ}
-use Rattle.std.proofs.Math.Option.{Option, none, some}
+use Rattle.std.specs.Prelude.{ℕ, ◌+◌, ◌*◌, ◌/◌, ◌%◌, List, [], ◌∷◌, Bool, false, ◌&&◌, cond, leb, length, ℤ, Option, Some, None, Result, Ok}
 use Rattle.std.specs.Int.{w8, w64}
 use Rattle.std.proofs.Common.{to_z, of_z}
 use Rattle.wire.specs.Be.{be_at, put}
@@ -13,10 +12,8 @@ use Rattle.header.specs.declared.PortIdentity.{PortIdentity}
 use Rattle.header.specs.declared.Header.{Header}
 use Rattle.header.specs.declared.DeserializedHeader.{DeserializedHeader}
 use Rattle.message_type.specs.declared.MessageType.{MessageType}
-use Rattle.message_type.specs.declared.TypeRead.{TypeRead}
-use Rattle.message_type.specs.declared.TypeRead.TheVariants.{Known, Reserved}
-use Rattle.header.specs.declared.HeaderRead.{HeaderRead}
-use Rattle.header.specs.declared.HeaderRead.TheVariants.{Done, Refused}
+use Rattle.refused.specs.declared.Refusal.{Refusal}
+use Rattle.refused.specs.Refusal.{refused}
 
 -- ---- what is read
 
@@ -61,18 +58,13 @@ header_at s =
     (port_identity_at s 20) (be_at s 30 2) (be_at s 33 1)
 
 -- by the type that the low nibble of byte 0 says: a reserved one is refused 2
-abbrev pub read_type : TypeRead → Header → ℕ → HeaderRead
-read_type (Known t) h size = Done (record { header = h; message_type = t; message_length = size })
-read_type Reserved h size = Refused 2
+abbrev pub read_type : Option MessageType → Header → ℕ → Result DeserializedHeader Refusal
+read_type (Some t) h size = Ok (record { header = h; message_type = t; message_length = size })
+read_type None h size = refused 2
 
 -- fewer than 34 bytes are refused 1 before that
-unfoldable pub read_header : List ℕ → HeaderRead
-read_header s = cond (leb 34 (length s)) (read_type (type_of (be_at s 0 1 % 16)) (header_at s) (be_at s 2 2)) (Refused 1)
-
--- paper 01's number of each answer, 0 for done, and the value that it holds
-abbrev pub answer_of : HeaderRead → ℕ × Option DeserializedHeader
-answer_of (Done d) = (0, some d)
-answer_of (Refused n) = (n, none)
+unfoldable pub read_header : List ℕ → Result DeserializedHeader Refusal
+read_header s = cond (leb 34 (length s)) (read_type (type_of (be_at s 0 1 % 16)) (header_at s) (be_at s 2 2)) (refused 1)
 
 -- ---- what is written
 

@@ -4,22 +4,23 @@
 ghost use Rattle.std.specs.Prelude.{◌≡◌, ◌+◌, ◌≤◌, length};
 ghost use Rattle.header.specs.Wire.{port_identity_at, header_of, header_at, read_header};
 
-use message_type::{MessageType, TypeRead};
+use message_type::MessageType;
+use refused::Refusal;
 
-#[derive(Clone, Copy)]
+#[derive(Clone, Copy, PartialEq, Eq)]
 pub struct PortIdentity {
     pub clock_identity: u64,
     pub port_number: u16,
 }
 
-#[derive(Clone, Copy)]
+#[derive(Clone, Copy, PartialEq, Eq)]
 pub struct PtpVersion {
     pub major: u8,
     pub minor: u8,
 }
 
 // The correction is in units of 2^-16 ns.
-#[derive(Clone, Copy)]
+#[derive(Clone, Copy, PartialEq, Eq)]
 pub struct Header {
     pub sdo_id: u16,
     pub version: PtpVersion,
@@ -43,18 +44,11 @@ pub struct Header {
 }
 
 // What the 34 bytes hold: the header, the type and the length field.
-#[derive(Clone, Copy)]
+#[derive(Clone, Copy, PartialEq, Eq)]
 pub struct DeserializedHeader {
     pub header: Header,
     pub message_type: MessageType,
     pub message_length: u16,
-}
-
-// What a reader of headers answers: all that the bytes hold, or the number of the refusal.
-#[derive(Clone, Copy)]
-pub enum HeaderRead {
-    Done(DeserializedHeader),
-    Refused(u8),
 }
 
 // How many bytes a header takes.
@@ -92,7 +86,7 @@ pub fn header_of(
     };
     Header {
         sdo_id: (sdo_type / 16) as u16 * 256 + sdo_low as u16,
-        version: version,
+        version,
         domain_number: domain,
         alternate_master_flag: flags6 / 1 % 2 == 1,
         two_step_flag: flags6 / 2 % 2 == 1,
@@ -106,10 +100,10 @@ pub fn header_of(
         time_tracable: flags7 / 16 % 2 == 1,
         frequency_tracable: flags7 / 32 % 2 == 1,
         synchronization_uncertain: flags7 / 64 % 2 == 1,
-        correction_field: wire::i64_of(correction),
+        correction_field: correction.cast_signed(),
         source_port_identity: source,
         sequence_id: sequence,
-        log_message_interval: wire::i8_of(interval),
+        log_message_interval: interval.cast_signed(),
     }
 }
 
@@ -133,22 +127,16 @@ pub fn header_at(s: &[u8]) -> Header
 }
 
 // Reads a header: fewer than 34 bytes are refused 1, then a reserved type 2.
-pub fn deserialize_header(buffer: &[u8]) -> HeaderRead
+pub fn deserialize_header(buffer: &[u8]) -> Result<DeserializedHeader, Refusal>
     ensures { result ≡ read_header buffer.now }
 {
     if buffer.len() < HEADER_SIZE {
-        return HeaderRead::Refused(1);
+        return Err(Refusal::Short);
     }
-    match MessageType::try_from(wire::u8_at(buffer, 0) % 16) {
-        TypeRead::Known(message_type) => {
-            let header = header_at(buffer);
-            let message_length = wire::u16_at(buffer, 2);
-            HeaderRead::Done(DeserializedHeader {
-                header,
-                message_type,
-                message_length,
-            })
-        }
-        TypeRead::Reserved => HeaderRead::Refused(2),
-    }
+    let message_type = MessageType::try_from(wire::u8_at(buffer, 0) % 16)?;
+    Ok(DeserializedHeader {
+        header: header_at(buffer),
+        message_type,
+        message_length: wire::u16_at(buffer, 2),
+    })
 }

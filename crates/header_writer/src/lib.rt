@@ -5,10 +5,12 @@ ghost use Rattle.std.specs.Prelude.{◌≡◌, ◌≤◌, length};
 ghost use Rattle.std.specs.Int.{w8, w64};
 ghost use Rattle.std.proofs.Common.{of_z};
 ghost use Rattle.wire.specs.Flags.{num, pack};
+ghost use Rattle.refused.specs.Refusal.{number_in};
 ghost use Rattle.header.specs.Wire.{bits6, bits7, with_header, fits_wire, write_answer, write_exit};
 
 use header::{HEADER_SIZE, Header};
 use message_type::MessageType;
+use refused::Refusal;
 
 // How many bytes may follow it, so that the length field can tell the whole.
 const CONTENT_LIMIT: usize = 65501;
@@ -20,7 +22,7 @@ const WIDTHS: [usize; 14] = [1, 1, 2, 1, 1, 1, 1, 8, 4, 8, 2, 2, 1, 1];
 fn flag(b: bool) -> u8
     ensures { (result ≡ num b) × (result ≤ 1) }
 {
-    if b { 1 } else { 0 }
+    u8::from(b)
 }
 
 pub fn flags6_of(h: Header) -> u8
@@ -50,15 +52,13 @@ pub fn flags7_of(h: Header) -> u8
 pub fn correction_bits(h: Header) -> u64
     ensures { result ≡ of_z w64 h.correction_field }
 {
-    let z = h.correction_field;
-    wire::bits64(z)
+    h.correction_field.cast_unsigned()
 }
 
 pub fn interval_bits(h: Header) -> u8
     ensures { result ≡ of_z w8 h.log_message_interval }
 {
-    let z = h.log_message_interval;
-    wire::bits8(z)
+    h.log_message_interval.cast_unsigned()
 }
 
 // Writes the 34 bytes of a header over a message of `size` bytes in all.
@@ -66,11 +66,9 @@ pub fn put_header(h: Header, content_type: MessageType, size: u16, s: &mut [u8])
     requires { 34 ≤ length s.old }
     ensures { s.new ≡ with_header s.old h content_type size }
 {
-    let source = h.source_port_identity;
-    let version = h.version;
     let values = [
         (h.sdo_id / 256) as u64 * 16 + content_type.number() as u64,
-        version.minor as u64 * 16 + version.major as u64,
+        h.version.minor as u64 * 16 + h.version.major as u64,
         size as u64,
         h.domain_number as u64,
         (h.sdo_id % 256) as u64,
@@ -78,8 +76,8 @@ pub fn put_header(h: Header, content_type: MessageType, size: u16, s: &mut [u8])
         flags7_of(h) as u64,
         correction_bits(h),
         0,
-        source.clock_identity,
-        source.port_number as u64,
+        h.source_port_identity.clock_identity,
+        h.source_port_identity.port_number as u64,
         h.sequence_id as u64,
         content_type.control_field() as u64,
         interval_bits(h) as u64,
@@ -88,44 +86,30 @@ pub fn put_header(h: Header, content_type: MessageType, size: u16, s: &mut [u8])
 }
 
 // Whether the wire can hold a header and what it says of the message's length.
+#[tactic(auto, unfolding(header::specs::Wire::fits_wire))]
 pub fn fits_wire(sdo: u16, major: u8, minor: u8, content: usize) -> bool
     ensures { result ≡ fits_wire sdo major minor content }
 {
-    if 0xFFF < sdo {
-        return false;
-    }
-    if 15 < major {
-        return false;
-    }
-    if 15 < minor {
-        return false;
-    }
-    content <= CONTENT_LIMIT
+    sdo <= 0xFFF && major <= 15 && minor <= 15 && content <= CONTENT_LIMIT
 }
 
-// Writes a header over a content of the given length: 15 where the wire cannot hold it, then 1 where the buffer is
-// short, else 0. A refusal writes nothing.
+// Writes a header over a content of the given length: refused 15 where the wire cannot hold it, then 1 where the buffer is
+// short. A refusal writes nothing.
 pub fn serialize_header(
     h: Header,
     content_type: MessageType,
     content_length: usize,
     buffer: &mut [u8],
-) -> u8
-    ensures { (result ≡ write_answer buffer.old h content_length) × (buffer.new ≡ write_exit buffer.old h content_type content_length) }
+) -> Result<(), Refusal>
+    ensures { (number_in result ≡ write_answer buffer.old h content_length) × (buffer.new ≡ write_exit buffer.old h content_type content_length) }
 {
-    let version = h.version;
-    let fits = fits_wire(h.sdo_id, version.major, version.minor, content_length);
-    if !fits {
-        return 15;
+    if !fits_wire(h.sdo_id, h.version.major, h.version.minor, content_length) {
+        return Err(Refusal::Unfit);
     }
     if buffer.len() < HEADER_SIZE {
-        return 1;
+        return Err(Refusal::Short);
     }
-    put_header(
-        h,
-        content_type,
-        (content_length + HEADER_SIZE) as u16,
-        buffer,
-    );
-    0
+    let size = (content_length + HEADER_SIZE) as u16;
+    put_header(h, content_type, size, buffer);
+    Ok(())
 }

@@ -1,11 +1,9 @@
 -- A decision of a book is the decision of the crate `states` on the book's candidates, so demand 3 holds at every decision.
 -- Assumes nothing.
-use Rattle.std.specs.Prelude.{◌≡◌, true, false, cond, ◌&&◌, ℕ, suc}
+use Rattle.std.specs.Prelude.{◌≡◌, true, false, cond, ◌&&◌, ℕ, suc, Some}
 use Rattle.std.proofs.Math.Path.{refl, sym, ap, ap₂}
 use Rattle.std.proofs.Common.{◌∙◌}
 use mathlib.Core.List.{List, [], ◌∷◌, ◌++◌, map, map-append, Memᴰ}
-use Rattle.std.proofs.Math.Option
-use Rattle.std.proofs.Math.Option.{Option, none, some}
 use Rattle.std.proofs.lemmas.Bool.{eqb-false}
 use Rattle.header.specs.declared.PortIdentity.{PortIdentity}
 use Rattle.wire.specs.Below.{both}
@@ -16,7 +14,7 @@ use Rattle.choice.specs.declared.BestAnnounceMessage.{BestAnnounceMessage}
 use Rattle.choice.specs.Choice.{choose, joined, All}
 use Rattle.choice.specs.Candidate.{dataset_of, whole, stays_by, winner, erbests, ebest, single}
 use Rattle.agreement.specs.Agreement.{SameData, Foreign, Agreeing}
-use Rattle.choice.proofs.Chosen.{map_option, choose-map, all-at}
+use Rattle.choice.proofs.Chosen.{choose-map, all-at}
 use Rattle.agreement.proofs.Winner.{choosing_once, erbest-none-above, ebest-none-above}
 use Rattle.states.specs.Ports.{answers_of, ebest_of, decision_of}
 use Rattle.states.specs.Slave.{recommends_s1, slave_port, flags_from, flags, ones, Received}
@@ -30,10 +28,6 @@ use Rattle.history.proofs.Messages.{holdable-parts}
 use Rattle.histories.specs.History.{candidates_from, candidates_of}
 
 -- ---- Erbest, Ebest and the states
-
-map-option : {A B : Type 0} (f : A → B) (o : Option A) → map_option f o ≡ Option.map f o
-map-option f none = refl
-map-option f (some x) = refl
 
 module _ {A : Type 0} (R : Reads A) where
   -- the offers are the candidates, each with a place
@@ -57,7 +51,7 @@ module _ {A : Type 0} (R : Reads A) where
   best-winner S k P =
       let os = offers_from R (receiver S k) 0 P.masters in
       let best : Offer → BestAnnounceMessage = λ o. o.best in
-      sym (choose-map best (stays_by whole) os ∙ map-option best (chosen R (receiver S k) P.masters)) ∙ ap (choose (stays_by whole)) (offers-candidates (receiver S k) 0 P.masters)
+      sym (choose-map best (stays_by whole) os) ∙ ap (choose (stays_by whole)) (offers-candidates (receiver S k) 0 P.masters)
 
   best_winners : (own : InternalDefaultDS) (listening : ℕ) (S : Site) (k : ℕ) (Ps : List (Port A))
       → map (λ (T : Turn A). T.best) (turns_from R S k (decide own listening) Ps) ≡ erbests whole (candidates_from R S k Ps)
@@ -178,12 +172,12 @@ module _ {A : Type 0} (R : Reads A) (B : Book A) where
 
     -- no candidate of a port ranks above its Erbest,
     pub none-above-erbest :
-        (bs : List BestAnnounceMessage) → Memᴰ bs (candidates_of R B) → (w : BestAnnounceMessage) → winner whole bs ≡ some w
+        (bs : List BestAnnounceMessage) → Memᴰ bs (candidates_of R B) → (w : BestAnnounceMessage) → winner whole bs ≡ Some w
         → (x : BestAnnounceMessage) → Memᴰ x bs → ranks_above (compare_of (dataset_of (whole x)) (dataset_of (whole w))) ≡ false
     none-above-erbest = erbest-none-above whole (candidates_of R B) agreeing
 
     -- and none of any port above Ebest.
     pub none-above-ebest :
-        (w : BestAnnounceMessage) → ebest whole (candidates_of R B) ≡ some w
+        (w : BestAnnounceMessage) → ebest whole (candidates_of R B) ≡ Some w
         → (x : BestAnnounceMessage) → Memᴰ x (joined (candidates_of R B)) → ranks_above (compare_of (dataset_of (whole x)) (dataset_of (whole w))) ≡ false
     none-above-ebest = ebest-none-above whole (candidates_of R B) agreeing

@@ -5,6 +5,7 @@ use Rattle.std.specs.Prelude.{◌≡◌, Bool, cond, ◌⊎◌, ℕ, zero, suc, 
 use Rattle.std.proofs.Math.Path.{refl, ap}
 use Rattle.std.proofs.Common.{sym, ap₂, ◌∙◌, inl, inr, add-zero, zero-add, add-suc, suc-add, arith, eq-eqb, ne_eqb, lt-ltb, le-ltb}
 use mathlib.Core.List.{List, [], ◌∷◌, map}
+use Rattle.std.specs.Prelude as rust
 use Rattle.std.proofs.Math.Option
 use Rattle.std.proofs.Math.Option.{Option, some, some-injective, none-ne-some}
 use Rattle.std.proofs.Math.ListN.{get_elem?}
@@ -169,7 +170,7 @@ module _ {A : Type 0} (R : Reads A) (f : Frame A) (B : Book A) where
 
 -- ---- the recommended state
 
-nth-answers : (own : InternalDefaultDS) (g : Option BestAnnounceMessage) (listening k : ℕ) (ps : List (Option BestAnnounceMessage)) (i : ℕ)
+nth-answers : (own : InternalDefaultDS) (g : rust.Option BestAnnounceMessage) (listening k : ℕ) (ps : List (rust.Option BestAnnounceMessage)) (i : ℕ)
     → get_elem? (answers_from own g listening k ps) i
     ≡ Option.map (λ p. record { port_number = suc (k + i); state = state_of own g p (bit listening (k + i)) }) (get_elem? ps i)
 unfolding answers_from

@@ -3,7 +3,6 @@
 use Rattle.std.specs.Prelude.{◌≡◌, refl, true, false, cond, List, [], ◌∷◌, ◌++◌, map, ℕ}
 use Rattle.std.proofs.Common.{sym, ap, subst, ◌∙◌, append-nil, append_assoc}
 use Rattle.std.proofs.Math.Option.{Option, none, some}
-use Rattle.choice.specs.Choice.{AllOf}
 use Rattle.history.specs.Port.{Reads, Site}
 use Rattle.history.specs.Book.{Book, Call, fresh_book, after}
 use Rattle.history.specs.Sound.{Lawful, sound_book, startable}
@@ -48,6 +47,11 @@ module _ {A : Type 0} (R : Reads A) where
   pub record MadeBy (B : Book A) (s : Since A) : Type 0 where
     pub taken : startable s.site.listed s.intervals ≡ true
     pub book : B ≡ run R (begun s) s.calls
+
+  -- what holds of the one that is there
+  abbrev AllOf : (P : Since A → Type 0) → Option (Since A) → Type 0
+  AllOf P none = Unit
+  AllOf P (some s) = P s
 
   step_made : (B : Book A) (o : Option (Since A)) (e : Event A) → AllOf (MadeBy B) o → AllOf (MadeBy (step R e B)) (since_after o e)
   step_made B o (start S ns) m =

@@ -1,11 +1,10 @@
 -- A port with numbered messages, its numbers forgotten, is the port: no rule reads a number.
 -- Assumes nothing.
-use Rattle.std.specs.Prelude.{◌≡◌, Bool, ◌||◌, ℕ, suc, ltb, leb, eqb, length, take, drop}
+use Rattle.std.specs.Prelude.{◌≡◌, Bool, ◌||◌, ℕ, suc, ltb, leb, eqb, length, take, drop, Option}
 use Rattle.std.proofs.Math.Path.{refl, ap}
 use Rattle.std.proofs.Common.{ap₂, ◌∙◌}
 use Rattle.std.proofs.Math.Bool.{cond, not}
 use mathlib.Core.List.{List, [], ◌∷◌, ◌++◌, map, map-append}
-use Rattle.std.proofs.Math.Option.{Option}
 use Rattle.std.proofs.Math.ListN.{length-map}
 use Rattle.header.specs.declared.PortIdentity.{PortIdentity}
 use Rattle.same.specs.Same.{same_port}

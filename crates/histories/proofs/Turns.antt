@@ -1,12 +1,11 @@
 -- Every turn of a port conserves messages: what is held afterwards and what is gone are what was held and what was taken in, counted by
 -- any test that does not read a message's age.
 -- Assumes nothing.
-use Rattle.std.specs.Prelude.{◌≡◌, Bool, not, ℕ, suc, ◌+◌, ltb, eqb, length, drop}
+use Rattle.std.specs.Prelude.{◌≡◌, Bool, not, ℕ, suc, ◌+◌, ltb, eqb, length, drop, Option}
 use Rattle.std.proofs.Math.Path.{refl, ap}
 use Rattle.std.proofs.Common.{sym, ap₂, ◌∙◌}
 use Rattle.std.proofs.Math.Bool.{cond}
 use mathlib.Core.List.{List, [], ◌∷◌, ◌++◌, map}
-use Rattle.std.proofs.Math.Option.{Option}
 use native.Mathlib.Omega.{arith}
 use Rattle.std.proofs.Math.ListN.{take}
 use Rattle.header.specs.declared.PortIdentity.{PortIdentity}

@@ -1,8 +1,6 @@
 -- One port of a book as lists: what it holds, and what the three calls do to it.
 -- Assumes nothing.
-use Rattle.std.specs.Prelude.{Bool, true, false, cond, not, ◌&&◌, ◌||◌, List, [], ◌∷◌, ◌++◌, map, ℕ, suc, ◌+◌, ltb, leb, eqb, length, take, drop}
-use Rattle.std.proofs.Math.Option
-use Rattle.std.proofs.Math.Option.{Option, none, some}
+use Rattle.std.specs.Prelude.{Bool, true, false, cond, not, ◌&&◌, ◌||◌, List, [], ◌∷◌, ◌++◌, map, ℕ, suc, ◌+◌, ltb, leb, eqb, length, take, drop, Option, Some, None, option_map}
 use Rattle.header.specs.declared.PortIdentity.{PortIdentity}
 use Rattle.announce.specs.declared.AnnounceMessage.{AnnounceMessage}
 use Rattle.same.specs.Same.{same_port}
@@ -141,7 +139,7 @@ module _ {A : Type 0} where
 
   -- a call that changes nothing
   abbrev pub unchanged : ℕ → Port A → Turn A
-  unchanged n P = record { port = P; answer = n; best = none; taken = []; evicted = []; aged_out = []; consumed = [] }
+  unchanged n P = record { port = P; answer = n; best = None; taken = []; evicted = []; aged_out = []; consumed = [] }
 
 -- ---- the calls
 
@@ -154,8 +152,8 @@ abbrev pub shown : Offer → Candidate
 shown o = whole o.best
 
 abbrev pub won_by : Option Offer → ℕ → Bool
-won_by none i = false
-won_by (some o) i = eqb o.place i
+won_by None i = false
+won_by (Some o) i = eqb o.place i
 
 module _ {A : Type 0} where
   -- the winner's list stays as it was, every other offered message is consumed
@@ -189,7 +187,7 @@ module _ {A : Type 0} (R : Reads A) where
       record {
         port = holding P (admit (sender R m) (R.aged m 0) P.masters);
         answer = 0;
-        best = none;
+        best = None;
         taken = R.aged m 0 ∷ [];
         evicted = put_out (list_of (sender R m) P.masters);
         aged_out = [];
@@ -220,7 +218,7 @@ module _ {A : Type 0} (R : Reads A) where
       record {
         port = holding P (sift has_messages (map (age_master step (age_limit P.interval)) P.masters));
         answer = 0;
-        best = none;
+        best = None;
         taken = [];
         evicted = [];
         aged_out = joined (map (λ M. leaving step (age_limit P.interval) M.messages) P.masters);
@@ -248,7 +246,7 @@ module _ {A : Type 0} (R : Reads A) where
       record {
         port = holding P (settled_from (chosen (receiver S k) P.masters) 0 P.masters);
         answer = 0;
-        best = Option.map (λ (o : Offer). o.best) (chosen (receiver S k) P.masters);
+        best = option_map (λ (o : Offer). o.best) (chosen (receiver S k) P.masters);
         taken = [];
         evicted = [];
         aged_out = [];

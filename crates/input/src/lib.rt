@@ -37,23 +37,10 @@ impl Place {
 }
 
 // Reads a block: how many bytes came, 0 at the end of the input and where the read fails.
-fn read_block(mut stdin: Stdin, block: &mut [u8]) -> usize
+pub fn read_block(mut stdin: Stdin, block: &mut [u8]) -> usize
     ensures { result ≤ length block.old }
 {
-    match stdin.read(block) {
-        Ok(count) => count,
-        Err(_) => 0,
-    }
-}
-
-// How many bytes the block holds, where `size` are said: no more than it has.
-fn held(block: &[u8], size: usize) -> usize
-    ensures { result ≤ length block.now }
-{
-    if size <= block.len() {
-        return size;
-    }
-    block.len()
+    stdin.read(block).unwrap_or(0)
 }
 
 // Takes bytes of the block from a place on, up to the end of a line or of what the block holds.
@@ -80,7 +67,7 @@ fn last(line: &[u8], count: usize) -> Next
     }
 }
 
-// Reads blocks until a line is complete. A proved loop has to end, and nothing says that a line does: the turns are counted down from a
+// Reads blocks until a line is complete. A proved loop has to end, and nothing says that a line does: the turns are counted, to a
 // number that no run uses up.
 fn read_line(stdin: Stdin, place: Place, block: &mut [u8], line: &mut [u8]) -> Next
     requires { place.size ≤ length block.old }
@@ -89,8 +76,7 @@ fn read_line(stdin: Stdin, place: Place, block: &mut [u8], line: &mut [u8]) -> N
     let mut count = place.count;
     let mut at = place.at;
     let mut size = place.size;
-    let mut turns = u64::MAX;
-    while turns > 0 {
+    for _ in 0..u64::MAX {
         match cut(line, count, block, size, at) {
             lines::Cut::Line { count: n, next } => {
                 return Next::Line {
@@ -120,7 +106,6 @@ fn read_line(stdin: Stdin, place: Place, block: &mut [u8], line: &mut [u8]) -> N
             return last(line, count);
         }
         at = 0;
-        turns -= 1;
     }
     Next::End
 }
@@ -130,8 +115,6 @@ fn read_line(stdin: Stdin, place: Place, block: &mut [u8], line: &mut [u8]) -> N
 pub fn next_line(stdin: Stdin, place: Place, block: &mut [u8], line: &mut [u8]) -> Next
     ensures within { NextWithin (length line.old) result }
 {
-    let count = place.count;
-    let at = place.at;
-    let size = held(block, place.size);
-    read_line(stdin, Place { count, at, size }, block, line)
+    let size = place.size.min(block.len());
+    read_line(stdin, Place { size, ..place }, block, line)
 }

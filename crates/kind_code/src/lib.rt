@@ -1,11 +1,11 @@
-// The number by which programs print the name of a TLV's kind: its place among the names, and 0 where a kind has none.
+// The number by which programs print the name of a TLV's kind: its place among the names, from 1 on, where a kind has one.
 #![tactic(auto)]
 
 use tlv_type::TlvType;
 
-pub fn name_code(kind: TlvType) -> u8 {
-    match kind {
-        TlvType::Other(_) => 0x00,
+pub fn name_code(kind: TlvType) -> Option<u8> {
+    let code = match kind {
+        TlvType::Other(_) => return None,
         TlvType::Management => 0x01,
         TlvType::ManagementErrorStatus => 0x02,
         TlvType::OrganizationExtension => 0x03,
@@ -27,5 +27,6 @@ pub fn name_code(kind: TlvType) -> u8 {
         TlvType::CumulativeRateRatio => 0x13,
         TlvType::Pad => 0x14,
         TlvType::Authentication => 0x15,
-    }
+    };
+    Some(code)
 }

@@ -1,12 +1,13 @@
 -- Words written one after the other, and the two ways of a call that is lent room for its answer.
 -- Assumes nothing.
-use Rattle.std.specs.Prelude.{ℕ, ◌+◌, ◌≤◌, ◌<◌, suc, ◌≡◌, refl, Bool, true, false, cond, ◌&&◌, List, [], ◌∷◌, ◌++◌, leb, ltb, length, drop, get_or, set}
+use Rattle.std.specs.Prelude.{ℕ, ◌+◌, ◌≤◌, ◌<◌, ◌≡◌, refl, Bool, true, false, cond, ◌&&◌, List, [], ◌∷◌, ◌++◌, leb, ltb, length, set, suc, drop, get_or}
 use Rattle.std.proofs.Common.{sym, ap, ◌∙◌, add-zero, arith, lt-ltb, le-ltb, ltb-false, le-leb, drop_of_length-le}
-use Rattle.std.proofs.lemmas.Bool.{lt-leb}
-use Rattle.std.proofs.Math.Seq.{drop-cons}
+use Rattle.std.specs.List.{list_all, zip}
 use Rattle.wire.specs.Be.{put}
 use Rattle.wire.proofs.BeLaws.{length-put, put-nil, put_last, put-put}
 use Rattle.lent.specs.Words.{all_within, lent}
+use Rattle.std.proofs.lemmas.Bool.{lt-leb}
+use Rattle.std.proofs.Math.Seq.{drop-cons}
 
 -- a word set is a run of one word
 pub put_one : (s : List ℕ) (k b : ℕ) → k < length s → set s k b ≡ put s k (b ∷ [])
@@ -50,6 +51,14 @@ lent-room n a x = go (ltb (length a) n) refl
     go : (t : Bool) → ltb (length a) n ≡ t → ◌≡◌ {A = ℕ} (cond t 1 x) 0 → n ≤ length a
     go true e z = absurd (omega (arith, z))
     go false e z = ltb-false (length a) n e
+
+-- ---- words against limits, pair by pair
+
+pub within-zip : (ws ls : List ℕ) → length ls ≤ length ws → list_all (λ (p : ℕ × ℕ). leb p.1 p.0) (zip ls ws) ≡ all_within ws ls
+unfolding all_within
+within-zip ws [] h = refl
+within-zip [] (l ∷ ls) h = absurd (omega (arith, h))
+within-zip (w ∷ ws) (l ∷ ls) h = ap (λ (t : Bool). leb w l && t) (within-zip ws ls (omega (arith, h)))
 
 -- ---- words against limits, one after the other
 

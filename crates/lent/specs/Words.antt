@@ -11,3 +11,7 @@ all_within (w ∷ ws) (l ∷ ls) = leb w l && all_within ws ls
 -- by the words that are lent for an answer of n words: what holds where they are too few, and where there is room
 unfoldable pub lent : {A : Type 0} → ℕ → List ℕ → A → A → A
 lent n a short enough = cond (ltb (length a) n) short enough
+
+-- paper 01's number of words against limits: 1 where they are fewer, then 15 where one is above its limit
+abbrev pub refusal : List ℕ → List ℕ → ℕ
+refusal ws ls = lent (length ls) ws 1 (cond (all_within ws ls) 0 15)

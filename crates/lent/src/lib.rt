@@ -3,18 +3,17 @@
 
 ghost use Rattle.std.specs.Prelude.{◌≡◌, ◌+◌, ◌≤◌, length};
 ghost use Rattle.wire.specs.Be.{put};
-ghost use Rattle.lent.specs.Words.{all_within};
+ghost use Rattle.refused.specs.Refusal.{number_in};
+ghost use Rattle.lent.specs.Words.{all_within, refusal};
+
+use refused::Refusal;
 
 // Writes a run of words from at on. Every other word stays.
 pub fn put_words(s: &mut [u64], at: usize, values: &[u64])
     requires { at + length values.now ≤ length s.old }
     ensures { s.new ≡ put s.old at values.now }
 {
-    let mut i = 0;
-    while i < values.len() {
-        s[at + i] = values[i];
-        i += 1;
-    }
+    s[at..at + values.len()].copy_from_slice(values);
 }
 
 // Whether each word is at most its limit.
@@ -22,12 +21,18 @@ pub fn within(words: &[u64], limits: &[u64]) -> bool
     requires { length limits.now ≤ length words.now }
     ensures { result ≡ all_within words.now limits.now }
 {
-    let mut i = 0;
-    while i < limits.len() {
-        if limits[i] < words[i] {
-            return false;
-        }
-        i += 1;
+    limits.iter().zip(words).all(|(limit, word)| word <= limit)
+}
+
+// Whether the words are taken: Short where they are fewer than the limits, then Unfit where a word is above its limit.
+pub fn check(words: &[u64], limits: &[u64]) -> Result<(), Refusal>
+    ensures { number_in result ≡ refusal words.now limits.now }
+{
+    if words.len() < limits.len() {
+        return Err(Refusal::Short);
     }
-    true
+    if !within(words, limits) {
+        return Err(Refusal::Unfit);
+    }
+    Ok(())
 }

@@ -43,7 +43,7 @@ impl Setup {
         Setup {
             ports: 0,
             priority_1: 0,
-            quality: quality,
+            quality,
             priority_2: 0,
         }
     }
@@ -55,7 +55,7 @@ fn put_number(out: &mut [u8], n: u8)
     ensures { out.new ≡ sets out.old 0 (text_of (n ∷ [])) }
 {
     hex_line::put_hex(out, 0, n);
-    out[2] = 10;
+    out[2] = b'\n';
 }
 
 // Writes a byte a port and LF, from byte 2 on.
@@ -63,14 +63,11 @@ fn put_ports(answers: [PortAnswer; 8], ports: usize, out: &mut [u8])
     requires { (answer_bytes ≤ length out.old) × (ports ≤ 8) }
     ensures { (out.new ≡ sets out.old 2 (states_text (take ports answers))) × (length answers ≡ 8) }
 {
-    let mut i = 0;
-    while i < ports {
+    for i in 0..ports {
         let answer = answers[i];
-        let state = answer.state;
-        hex_line::put_hex(out, 2 + i * 2, state.number());
-        i += 1;
+        hex_line::put_hex(out, 2 + i * 2, answer.state.number());
     }
-    out[2 + i * 2] = 10;
+    out[2 + ports * 2] = b'\n';
 }
 
 // Writes the answer to a decision: 0, and a byte a port.
@@ -88,8 +85,5 @@ pub fn told(setup: Setup, n: u8, out: &mut [u8]) -> Answered
     ensures { (result.setup ≡ setup) × (result.count ≡ 3) × (out.new ≡ sets out.old 0 (text_of (n ∷ []))) }
 {
     put_number(out, n);
-    Answered {
-        setup: setup,
-        count: 3,
-    }
+    Answered { setup, count: 3 }
 }

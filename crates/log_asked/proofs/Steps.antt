@@ -1,6 +1,6 @@
 -- Each way through the answer to a line, for the proofs of the code.
 -- Assumes nothing.
-use Rattle.std.specs.Prelude.{ℕ, zero, suc, ◌*◌, ◌/◌, ◌%◌, ◌≤◌, ◌<◌, ◌≡◌, Bool, true, false, ◌&&◌, List, [], ◌∷◌, eqb, leb, length, take, get_or}
+use Rattle.std.specs.Prelude.{ℕ, zero, suc, ◌*◌, ◌/◌, ◌%◌, ◌≤◌, ◌<◌, ◌≡◌, Bool, true, false, ◌&&◌, List, [], ◌∷◌, eqb, leb, length, take, get_or, Option, Some, None}
 use Rattle.std.proofs.Math.Path.{refl, sym}
 use Rattle.std.proofs.Common.{ap, ◌∙◌, true≢false, arith, take_at}
 use Rattle.std.proofs.Math.Bool.{cond}
@@ -8,8 +8,6 @@ use Rattle.std.proofs.Math.Option.{none}
 use borrow.Author.Tests.{eq-eqb, ne_eqb, lt-ltb, le-ltb, eqb-true, leb-true}
 use Rattle.std.proofs.lemmas.List.Edits.{sets, sets-eq}
 use Rattle.wire.specs.Below.{both}
-use Rattle.hex_line.specs.declared.Decoded.{Decoded}
-use Rattle.hex_line.specs.declared.Decoded.TheVariants.{Bytes, Bad}
 use Rattle.hex_line.specs.Hex.{pairs_of, missed, fits_in, decoded_of, decoded_out}
 use Rattle.log_answer.specs.declared.Setup.{Setup}
 use Rattle.log_answer.specs.declared.Answered.{Answered}
@@ -29,22 +27,22 @@ length_pairs (suc n) [] e = absurd (omega (arith, e))
 length_pairs (suc n) (a ∷ []) e = absurd (omega (arith, e))
 length_pairs (suc n) (a ∷ b ∷ line) e = ap suc (length_pairs n line (omega (arith, e)))
 
-abbrev is_bad : Decoded → Bool
-is_bad (Bytes n) = false
-is_bad Bad = true
+abbrev is_bad : Option ℕ → Bool
+is_bad (Some n) = false
+is_bad None = true
 
-abbrev size_of : Decoded → ℕ
-size_of (Bytes n) = n
-size_of Bad = 0
+abbrev size_of : Option ℕ → ℕ
+size_of (Some n) = n
+size_of None = 0
 
 -- the tests of a line, by how its decoding went
-good_tests : (a e m : Bool) (k n : ℕ) → cond (a && (e && a)) (cond m (Bytes k) Bad) Bad ≡ Bytes n → ((a && (e && m)) ≡ true) × ((a && (e && a)) ≡ true) × (e ≡ true) × (k ≡ n)
+good_tests : (a e m : Bool) (k n : ℕ) → cond (a && (e && a)) (cond m (Some k) None) None ≡ Some n → ((a && (e && m)) ≡ true) × ((a && (e && a)) ≡ true) × (e ≡ true) × (k ≡ n)
 good_tests true true true k n q = (refl, refl, refl, ap size_of q)
 good_tests true true false k n q = absurd (true≢false (ap is_bad q))
 good_tests true false m k n q = absurd (true≢false (ap is_bad q))
 good_tests false e m k n q = absurd (true≢false (ap is_bad q))
 
-bad_tests : (a e m : Bool) (k : ℕ) → cond (a && (e && a)) (cond m (Bytes k) Bad) Bad ≡ Bad → (a && (e && m)) ≡ false
+bad_tests : (a e m : Bool) (k : ℕ) → cond (a && (e && a)) (cond m (Some k) None) None ≡ None → (a && (e && m)) ≡ false
 bad_tests true true true k q = absurd (true≢false (sym (ap is_bad q)))
 bad_tests true true false k q = refl
 bad_tests true false m k q = refl
@@ -60,16 +58,16 @@ module _ (setup : Setup) (line : List ℕ) where
   abbrev digits : Bool
   digits = eqb (missed line) 0
 
-  pub bad-asked : Bad ≡ decoded_of line 2048 → none ≡ asked setup line
+  pub bad-asked : None ≡ decoded_of line 2048 → none ≡ asked setup line
   unfolding asked decoded_of fits_in
   bad-asked e = sym (ap (λ (b : Bool). cond b (asked_of setup (pairs_of line)) none) (bad_tests short even digits (length line / 2) (sym e)))
 
-  pub good_asked : (n : ℕ) → Bytes n ≡ decoded_of line 2048 → asked_of setup (pairs_of line) ≡ asked setup line
+  pub good_asked : (n : ℕ) → Some n ≡ decoded_of line 2048 → asked_of setup (pairs_of line) ≡ asked setup line
   unfolding asked decoded_of fits_in
   good_asked n e = sym (ap (λ (b : Bool). cond b (asked_of setup (pairs_of line)) none) (good_tests short even digits (length line / 2) n (sym e)).0)
 
 -- the bytes stand in front of the room for them
-pub good_bytes : (line out : List ℕ) (n : ℕ) → length out ≡ 2048 → Bytes n ≡ decoded_of line 2048 → take n (decoded_out line out) ≡ pairs_of line
+pub good_bytes : (line out : List ℕ) (n : ℕ) → length out ≡ 2048 → Some n ≡ decoded_of line 2048 → take n (decoded_out line out) ≡ pairs_of line
 unfolding decoded_of decoded_out fits_in
 good_bytes line out n room e =
     let t = good_tests (leb (length line) 4096) (eqb (length line % 2) 0) (eqb (missed line) 0) (length line / 2) n (sym e) in

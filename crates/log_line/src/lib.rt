@@ -3,21 +3,23 @@
 
 ghost use Rattle.std.specs.Prelude.{◌≡◌, ◌≤◌, length};
 ghost use Rattle.book.specs.Rules.{store_refusal};
+ghost use Rattle.refused.specs.Refusal.{number_in};
 ghost use Rattle.log_answer.specs.Answer.{answer_bytes, Known, Answers};
 ghost use Rattle.log_asked.specs.Line.{kind_asked, asked_of, asked, line_answered, line_store, line_out, none_answered, none_out};
 
 use log_answer::{ANSWER_BYTES, Answered, SHAPELESS, Setup};
+use refused::Refusal;
 
 // A line of bytes whose first is not 0, once there was a good setup line.
 fn kind_line(
     store: &mut [u64],
-    checked: u8,
+    checked: Result<(), Refusal>,
     setup: Setup,
     kind: u8,
     line: &[u8],
     out: &mut [u8],
 ) -> Answered
-    requires { (answer_bytes ≤ length out.old) × (checked ≡ store_refusal store.old) }
+    requires { (answer_bytes ≤ length out.old) × (number_in checked ≡ store_refusal store.old) }
     ensures { Answers (kind_asked kind setup line.now) setup store.old out.old result store.new out.new }
 {
     if kind == 1 {
@@ -33,8 +35,14 @@ fn kind_line(
 }
 
 // A line of bytes. Before a first good setup line only `00` is answered.
-fn answer(store: &mut [u64], checked: u8, setup: Setup, line: &[u8], out: &mut [u8]) -> Answered
-    requires { (answer_bytes ≤ length out.old) × Known checked setup store.old }
+fn answer(
+    store: &mut [u64],
+    checked: Result<(), Refusal>,
+    setup: Setup,
+    line: &[u8],
+    out: &mut [u8],
+) -> Answered
+    requires { (answer_bytes ≤ length out.old) × Known (number_in checked) setup store.old }
     ensures { Answers (asked_of setup line.now) setup store.old out.old result store.new out.new }
 {
     if line.len() == 0 {
@@ -53,39 +61,36 @@ fn answer(store: &mut [u64], checked: u8, setup: Setup, line: &[u8], out: &mut [
 // A line of digits, with room for its bytes.
 fn spelled(
     store: &mut [u64],
-    checked: u8,
+    checked: Result<(), Refusal>,
     setup: Setup,
     line: &[u8],
     bytes: &mut [u8],
     out: &mut [u8],
 ) -> Answered
-    requires { (answer_bytes ≤ length out.old) × (length bytes.old ≡ 2048) × Known checked setup store.old }
+    requires { (answer_bytes ≤ length out.old) × (length bytes.old ≡ 2048) × Known (number_in checked) setup store.old }
     ensures { Answers (asked setup line.now) setup store.old out.old result store.new out.new }
 {
     match hex_line::decode(line, bytes) {
-        hex_line::Decoded::Bytes(n) => answer(store, checked, setup, &bytes[..n], out),
-        hex_line::Decoded::Bad => log_answer::told(setup, SHAPELESS, out),
+        Some(n) => answer(store, checked, setup, &bytes[..n], out),
+        None => log_answer::told(setup, SHAPELESS, out),
     }
 }
 
 // Answers one line, over a store whose check has answered; before a first good setup line it is not looked at.
 pub fn line_checked(
     store: &mut [u64],
-    checked: u8,
+    checked: Result<(), Refusal>,
     setup: Setup,
     line: &[u8],
     out: &mut [u8],
 ) -> Answered
-    requires { Known checked setup store.old }
+    requires { Known (number_in checked) setup store.old }
     ensures value { result ≡ line_answered setup line.now store.old out.old }
     ensures store_after { store.new ≡ line_store setup line.now store.old out.old }
     ensures out_after { out.new ≡ line_out setup line.now store.old out.old }
 {
     if out.len() < ANSWER_BYTES {
-        return Answered {
-            setup: setup,
-            count: 0,
-        };
+        return Answered { setup, count: 0 };
     }
     let mut bytes: [u8; 2048] = [0; 2048];
     spelled(store, checked, setup, line, &mut bytes, out)
@@ -107,10 +112,7 @@ pub fn too_long(setup: Setup, out: &mut [u8]) -> Answered
     ensures { (result ≡ none_answered setup out.old) × (out.new ≡ none_out out.old) }
 {
     if out.len() < ANSWER_BYTES {
-        return Answered {
-            setup: setup,
-            count: 0,
-        };
+        return Answered { setup, count: 0 };
     }
     log_answer::told(setup, SHAPELESS, out)
 }

@@ -10,14 +10,14 @@ ghost use Rattle.log_step.specs.Piece.{step_of, step_store, step_out, StepWithin
 
 use lines::{Cut, Last};
 use log_answer::{Answered, Setup};
-use log_step::{Rest, Step};
+use log_step::Step;
 
 // Answers the line of n bytes at the start of the buffer.
 fn kept_line(store: &mut [u64], setup: Setup, buffer: &[u8], n: usize, out: &mut [u8]) -> Answered
     requires { (n ≤ length buffer.now) × Known 0 setup store.old }
     ensures { (result ≡ line_answered setup (take n buffer.now) store.old out.old) × (store.new ≡ line_store setup (take n buffer.now) store.old out.old) × (out.new ≡ line_out setup (take n buffer.now) store.old out.old) }
 {
-    log_line::line_checked(store, 0, setup, &buffer[..n], out)
+    log_line::line_checked(store, Ok(()), setup, &buffer[..n], out)
 }
 
 // Takes bytes of a piece from a place on, up to the end of a line, and answers the line: at the start of out stands the line of the
@@ -58,7 +58,7 @@ pub fn last_answer(
     buffer: &[u8],
     count: usize,
     out: &mut [u8],
-) -> Rest
+) -> Option<Answered>
     requires { Known 0 setup store.old }
     ensures value { result ≡ rest_of (last_of (length buffer.now) count) buffer.now setup store.old out.old }
     ensures store_after { store.new ≡ rest_store (last_of (length buffer.now) count) buffer.now setup store.old out.old }
@@ -66,8 +66,8 @@ pub fn last_answer(
     ensures within { RestWithin (length out.old) result }
 {
     match lines::last_line(buffer, count) {
-        Last::Line { count: n } => Rest::Line(kept_line(store, setup, buffer, n, out)),
-        Last::TooLong => Rest::Line(log_line::too_long(setup, out)),
-        Last::Nothing => Rest::Nothing,
+        Last::Line { count: n } => Some(kept_line(store, setup, buffer, n, out)),
+        Last::TooLong => Some(log_line::too_long(setup, out)),
+        Last::Nothing => None,
     }
 }

@@ -1,11 +1,14 @@
 -- Each way through a call on a piece, for the proofs of the code.
 -- Assumes nothing.
-use Rattle.std.specs.Prelude.{ℕ, zero, suc, ◌≤◌, ◌≡◌, refl, Bool, true, false, cond, List, [], ◌∷◌, eqb, leb, ltb, length, take, drop}
+use Rattle.std.specs.Prelude.{ℕ, zero, suc, ◌≤◌, ◌≡◌, refl, Bool, true, false, cond, List, [], ◌∷◌, eqb, leb, ltb, length, take, drop, Some, None, Result, Ok, Err}
+use Rattle.std.specs.Prelude as rust
 use Rattle.std.proofs.Common.{zero-le, sym, ap, ◌∙◌, subst, true≢false, arith, leb-true, ltb-false, length-take-le}
 use Rattle.std.proofs.Math.Option.{Option, none, some}
 use Rattle.std.proofs.lemmas.List.{length-map}
+use Rattle.refused.specs.declared.Refusal.{Refusal}
+use Rattle.bmca.specs.declared.Decision.{Decision}
 use Rattle.bmca.specs.Decide.{decide_answer}
-use Rattle.stored.specs.Calls.{StoreCall, fresh_start, register_frame, step_age, decide, answers_to}
+use Rattle.stored.specs.Calls.{StoreCall, fresh_start, register_frame, step_age, decide, answers_to, answers_in}
 use Rattle.feed.specs.Feed.{Next, found, taken, stop_at, scan}
 use Rattle.lines.specs.Lines.{Told, line, too_long, Open, opened, keep, move, out, told_open, next_line, cut_of, kept_of, CutWithin}
 use Rattle.lines.specs.declared.Cut.{Cut}
@@ -21,8 +24,6 @@ use Rattle.log_decision.specs.Steps.{few-ports}
 use Rattle.log_asked.proofs.AskedKinds.{line_known}
 use Rattle.log_step.specs.declared.Step.{Step}
 use Rattle.log_step.specs.declared.Step.TheVariants as S
-use Rattle.log_step.specs.declared.Rest.{Rest}
-use Rattle.log_step.specs.declared.Rest.TheVariants as R
 use Rattle.log_step.specs.Piece.{step_of, step_store, step_out, StepWithin, StepKnown, rest_of, rest_store, rest_out, RestWithin}
 
 -- ---- a line that is found stands at the start of the buffer
@@ -63,8 +64,11 @@ answers-fit : (c : StoreCall) (s : List ℕ) → length (answers_to c s) ≤ 8
 answers-fit (fresh_start own any listed intervals) s = zero-le
 answers-fit (register_frame port frame) s = zero-le
 answers-fit (step_age step) s = zero-le
-answers-fit (decide p₁ quality p₂ listening) s =
-    omega (arith, take-fits (decide_answer s p₁ quality p₂ listening).ports (decide_answer s p₁ quality p₂ listening).answers, few-ports s p₁ quality p₂ listening)
+answers-fit (decide p₁ quality p₂ listening) s = by (decide_answer s p₁ quality p₂ listening) refl
+  where
+    by : (a : Result Decision Refusal) → a ≡ decide_answer s p₁ quality p₂ listening → length (answers_in a) ≤ 8
+    by (Ok d) e = omega (arith, take-fits d.ports d.answers, few-ports s p₁ quality p₂ listening d e)
+    by (Err r) e = zero-le
 
 pub told-fits : (a : Option Asked) (s : List ℕ) → length (text_of (told_of a s)) ≤ answer_bytes
 told-fits none s = omega (arith, length-text (17 ∷ []))
@@ -173,24 +177,24 @@ step-known N setup s room r s' known answer words =
 
 -- ---- the end of the input, by what stands open
 
-abbrev Rested : Last → (buffer : List ℕ) → Setup → (s room : List ℕ) → Rest → (s' out' : List ℕ) → Type 0
+abbrev Rested : Last → (buffer : List ℕ) → Setup → (s room : List ℕ) → rust.Option Answered → (s' out' : List ℕ) → Type 0
 Rested x buffer setup s room r s' out' =
     (r ≡ rest_of x buffer setup s room) × ((s' ≡ rest_store x buffer setup s room) × ((out' ≡ rest_out x buffer setup s room) × RestWithin (length room) r))
 
 module _ (x : Last) (buffer : List ℕ) (setup : Setup) (s room : List ℕ) where
-  rests : (y : Last) → y ≡ x → (r : Rest) (s' out' : List ℕ) → Rested y buffer setup s room r s' out' → Rested x buffer setup s room r s' out'
+  rests : (y : Last) → y ≡ x → (r : rust.Option Answered) (s' out' : List ℕ) → Rested y buffer setup s room r s' out' → Rested x buffer setup s room r s' out'
   rests y e r s' out' h = subst (λ (z : Last). Rested z buffer setup s room r s' out') e h
 
   pub line-rest : (n : ℕ) → L.Line n ≡ x → (r : Answered) (s' out' : List ℕ)
       → (r ≡ line_answered setup (take n buffer) s room) × (s' ≡ line_store setup (take n buffer) s room) × (out' ≡ line_out setup (take n buffer) s room)
-      → Rested x buffer setup s room (R.Line r) s' out'
+      → Rested x buffer setup s room (Some r) s' out'
   line-rest n e r s' out' h =
-      rests (L.Line n) e (R.Line r) s' out'
-      (ap R.Line h.0, (h.1, (h.2, subst (λ (y : Answered). y.count ≤ length room) (sym h.0) (line-fits setup (take n buffer) s room))))
+      rests (L.Line n) e (Some r) s' out'
+      (ap Some h.0, (h.1, (h.2, subst (λ (y : Answered). y.count ≤ length room) (sym h.0) (line-fits setup (take n buffer) s room))))
 
-  pub long_rest : L.TooLong ≡ x → (r : Answered) (out' : List ℕ) → (r ≡ none_answered setup room) × (out' ≡ none_out room) → Rested x buffer setup s room (R.Line r) s out'
+  pub long_rest : L.TooLong ≡ x → (r : Answered) (out' : List ℕ) → (r ≡ none_answered setup room) × (out' ≡ none_out room) → Rested x buffer setup s room (Some r) s out'
   long_rest e r out' h =
-      rests L.TooLong e (R.Line r) s out' (ap R.Line h.0, (refl, (h.1, subst (λ (y : Answered). y.count ≤ length room) (sym h.0) (none-fits setup room))))
+      rests L.TooLong e (Some r) s out' (ap Some h.0, (refl, (h.1, subst (λ (y : Answered). y.count ≤ length room) (sym h.0) (none-fits setup room))))
 
-  pub none_rest : L.Nothing ≡ x → Rested x buffer setup s room R.Nothing s room
-  none_rest e = rests L.Nothing e R.Nothing s room (refl, (refl, (refl, tt)))
+  pub none_rest : L.Nothing ≡ x → Rested x buffer setup s room None s room
+  none_rest e = rests L.Nothing e None s room (refl, (refl, (refl, tt)))

@@ -1,6 +1,6 @@
 -- The next line of a piece of the input, and the line at its end, as they are cut and answered.
 -- Assumes nothing.
-use Rattle.std.specs.Prelude.{ℕ, ◌≤◌, ◌<◌, List, take}
+use Rattle.std.specs.Prelude.{ℕ, ◌≤◌, ◌<◌, List, take, Option, Some, None}
 use Rattle.feed.specs.Feed.{Next, found, taken}
 use Rattle.lines.specs.Lines.{Told, line, too_long, Open}
 use Rattle.lines.specs.declared.Last.{Last}
@@ -11,8 +11,6 @@ use Rattle.log_answer.specs.Answer.{Known}
 use Rattle.log_asked.specs.Line.{line_answered, line_store, line_out, none_answered, none_out}
 use Rattle.log_step.specs.declared.Step.{Step}
 use Rattle.log_step.specs.declared.Step.TheVariants as S
-use Rattle.log_step.specs.declared.Rest.{Rest}
-use Rattle.log_step.specs.declared.Rest.TheVariants as R
 
 -- ---- what is answered to a line that was cut out, and what is left of the store and of the room for the answer
 
@@ -44,10 +42,10 @@ step_out (taken o) setup s out = out
 
 -- ---- the end of the input, by what stands open
 
-abbrev pub rest_of : Last → (buffer : List ℕ) → Setup → (s out : List ℕ) → Rest
-rest_of (L.Line n) buffer setup s out = R.Line (line_answered setup (take n buffer) s out)
-rest_of L.TooLong buffer setup s out = R.Line (none_answered setup out)
-rest_of L.Nothing buffer setup s out = R.Nothing
+abbrev pub rest_of : Last → (buffer : List ℕ) → Setup → (s out : List ℕ) → Option Answered
+rest_of (L.Line n) buffer setup s out = Some (line_answered setup (take n buffer) s out)
+rest_of L.TooLong buffer setup s out = Some (none_answered setup out)
+rest_of L.Nothing buffer setup s out = None
 
 abbrev pub rest_store : Last → (buffer : List ℕ) → Setup → (s out : List ℕ) → List ℕ
 rest_store (L.Line n) buffer setup s out = line_store setup (take n buffer) s out
@@ -65,9 +63,9 @@ abbrev pub StepWithin : (room size at : ℕ) → Step → Type 0
 StepWithin room size at (S.Line answered next) = (answered.count ≤ room) × (at < next) × (next ≤ size)
 StepWithin room size at (S.Taken n) = Unit
 
-abbrev pub RestWithin : (room : ℕ) → Rest → Type 0
-RestWithin room (R.Line answered) = answered.count ≤ room
-RestWithin room R.Nothing = Unit
+abbrev pub RestWithin : (room : ℕ) → Option Answered → Type 0
+RestWithin room (Some answered) = answered.count ≤ room
+RestWithin room None = Unit
 
 -- the store is sound once something is set up
 abbrev pub StepKnown : Setup → Step → List ℕ → Type 0

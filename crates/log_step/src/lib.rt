@@ -1,4 +1,5 @@
-// What a call on a piece of the log, and the end of the log, find and answer: the types, and what they say (specs/). There is no other code.
+// What a call on a piece of the log, and the end of the log, find and answer: the type of the first, and what both say (specs/). There is
+// no other code.
 #![tactic(auto)]
 
 use log_answer::Answered;
@@ -9,11 +10,4 @@ use log_answer::Answered;
 pub enum Step {
     Line { answered: Answered, next: usize },
     Taken { count: usize },
-}
-
-// What the end of the input finds: a line, which is answered, or none.
-#[derive(Clone, Copy)]
-pub enum Rest {
-    Line(Answered),
-    Nothing,
 }

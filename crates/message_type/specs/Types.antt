@@ -1,11 +1,11 @@
 -- The known message types of IEEE 1588-2019, table 36, their numbers, and the control field of each.
 -- Assumes nothing.
-use Rattle.std.specs.Prelude.{ℕ, ◌≤◌, ◌≡◌, refl, Bool, true, false, cond, List, [], ◌∷◌, eqb}
+use Rattle.std.specs.Prelude.{ℕ, ◌≤◌, ◌≡◌, refl, Bool, true, false, cond, List, [], ◌∷◌, eqb, Option, Some, None, Ok, Err, ok_or}
 use Rattle.std.proofs.Common.{sym, ap, ◌∙◌, arith, lit≤, eqb-true}
+use Rattle.refused.specs.declared.Refusal.{Refusal}
+use Rattle.refused.specs.declared.Refusal.TheVariants.{ReservedType}
 use Rattle.message_type.specs.declared.MessageType.{MessageType}
 use Rattle.message_type.specs.declared.MessageType.TheVariants.{Sync, DelayReq, PDelayReq, PDelayResp, FollowUp, DelayResp, PDelayRespFollowUp, Announce, Signaling, Management}
-use Rattle.message_type.specs.declared.TypeRead.{TypeRead}
-use Rattle.message_type.specs.declared.TypeRead.TheVariants.{Known, Reserved}
 
 abbrev pub type_number : MessageType → ℕ
 type_number Sync = 0
@@ -25,12 +25,12 @@ known =
     Sync ∷ DelayReq ∷ PDelayReq ∷ PDelayResp ∷ FollowUp ∷ DelayResp ∷ PDelayRespFollowUp ∷ Announce ∷ Signaling ∷ Management ∷ []
 
 -- the one with a number
-abbrev one_in : List MessageType → ℕ → TypeRead
-one_in [] n = Reserved
-one_in (t ∷ ts) n = cond (eqb n (type_number t)) (Known t) (one_in ts n)
+abbrev one_in : List MessageType → ℕ → Option MessageType
+one_in [] n = None
+one_in (t ∷ ts) n = cond (eqb n (type_number t)) (Some t) (one_in ts n)
 
 -- the type of a number; every other is reserved
-unfoldable pub type_of : ℕ → TypeRead
+unfoldable pub type_of : ℕ → Option MessageType
 type_of n = one_in known n
 
 -- 0 Sync, 1 Delay_Req, 2 Follow_Up, 3 Delay_Resp, 4 Management, 5 all others
@@ -73,7 +73,7 @@ control-le Signaling = lit≤ tt
 control-le Management = lit≤ tt
 
 -- a type's number is that of the type
-pub type-back : (t : MessageType) → type_of (type_number t) ≡ Known t
+pub type-back : (t : MessageType) → type_of (type_number t) ≡ Some t
 unfolding type_of
 type-back Sync = refl
 type-back DelayReq = refl
@@ -87,15 +87,25 @@ type-back Signaling = refl
 type-back Management = refl
 
 -- and a number's type has that number
-number_in : (ts : List MessageType) (n : ℕ) (t : MessageType) → one_in ts n ≡ Known t → type_number t ≡ n
+number_in : (ts : List MessageType) (n : ℕ) (t : MessageType) → one_in ts n ≡ Some t → type_number t ≡ n
 number_in [] n t e = absurd (let z : ◌≡◌ {A = ℕ} 0 1 = cc in omega arith)
 number_in (u ∷ ts) n t e = by (eqb n (type_number u)) refl e (λ q. number_in ts n t q)
   where
-    by : (b : Bool) → eqb n (type_number u) ≡ b → cond b (Known u) (one_in ts n) ≡ Known t → (one_in ts n ≡ Known t → type_number t ≡ n)
+    by : (b : Bool) → eqb n (type_number u) ≡ b → cond b (Some u) (one_in ts n) ≡ Some t → (one_in ts n ≡ Some t → type_number t ≡ n)
         → type_number t ≡ n
     by true q e rest = ap type_number (let same : t ≡ u = cc in same) ∙ sym (eqb-true n (type_number u) q)
     by false q e rest = rest e
 
-pub number-back : (n : ℕ) (t : MessageType) → type_of n ≡ Known t → type_number t ≡ n
+pub number-back : (n : ℕ) (t : MessageType) → type_of n ≡ Some t → type_number t ≡ n
 unfolding type_of
 number-back n t e = number_in known n t e
+
+-- ---- what a conversion says of the number
+
+pub type-known : (o : Option MessageType) (t : MessageType) → Ok t ≡ ok_or o ReservedType → o ≡ Some t
+type-known (Some u) t e = cc
+type-known None t e = cc
+
+pub type-reserved : (o : Option MessageType) (r : Refusal) → Err r ≡ ok_or o ReservedType → (o ≡ None) × (r ≡ ReservedType)
+type-reserved (Some u) r e = (cc, cc)
+type-reserved None r e = (refl, cc)

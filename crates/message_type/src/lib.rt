@@ -1,11 +1,14 @@
 // The types of PTP messages, after messages/mod.rs and messages/control_field.rs: their numbers, and the control field of each.
 #![tactic(auto)]
 
-ghost use Rattle.std.specs.Prelude.{◌≡◌, ◌≤◌};
+ghost use Rattle.std.specs.Prelude.{◌≡◌, ◌≤◌, ok_or};
+ghost use Rattle.refused.specs.declared.Refusal.TheVariants.{ReservedType};
 ghost use Rattle.message_type.specs.Types.{type_of, type_number, control_of};
 
+use refused::Refusal;
+
 // The known types; the reserved ones have no name, so no writer can be given one.
-#[derive(Clone, Copy)]
+#[derive(Clone, Copy, Debug, PartialEq, Eq)]
 pub enum MessageType {
     Sync,
     DelayReq,
@@ -19,32 +22,30 @@ pub enum MessageType {
     Management,
 }
 
-// What a number says as a type.
-#[derive(Clone, Copy)]
-pub enum TypeRead {
-    Known(MessageType),
-    Reserved,
+impl TryFrom<u8> for MessageType {
+    type Error = Refusal;
+
+    ghost try_from_gives = { λ value r. r ≡ ok_or (type_of value) ReservedType };
+
+    #[tactic(auto, unfolding(crate::specs::Types::type_of))]
+    fn try_from(value: u8) -> Result<MessageType, Refusal> {
+        match value {
+            0x0 => Ok(MessageType::Sync),
+            0x1 => Ok(MessageType::DelayReq),
+            0x2 => Ok(MessageType::PDelayReq),
+            0x3 => Ok(MessageType::PDelayResp),
+            0x8 => Ok(MessageType::FollowUp),
+            0x9 => Ok(MessageType::DelayResp),
+            0xa => Ok(MessageType::PDelayRespFollowUp),
+            0xb => Ok(MessageType::Announce),
+            0xc => Ok(MessageType::Signaling),
+            0xd => Ok(MessageType::Management),
+            _ => Err(Refusal::ReservedType),
+        }
+    }
 }
 
 impl MessageType {
-    pub fn try_from(value: u8) -> TypeRead
-        ensures { result ≡ type_of value }
-    {
-        match value {
-            0x0 => TypeRead::Known(MessageType::Sync),
-            0x1 => TypeRead::Known(MessageType::DelayReq),
-            0x2 => TypeRead::Known(MessageType::PDelayReq),
-            0x3 => TypeRead::Known(MessageType::PDelayResp),
-            0x8 => TypeRead::Known(MessageType::FollowUp),
-            0x9 => TypeRead::Known(MessageType::DelayResp),
-            0xa => TypeRead::Known(MessageType::PDelayRespFollowUp),
-            0xb => TypeRead::Known(MessageType::Announce),
-            0xc => TypeRead::Known(MessageType::Signaling),
-            0xd => TypeRead::Known(MessageType::Management),
-            _ => TypeRead::Reserved,
-        }
-    }
-
     // The type's nibble on the wire.
     pub fn number(self) -> u8
         ensures { (result ≡ type_number self) × (result ≤ 13) }

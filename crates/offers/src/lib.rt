@@ -41,7 +41,7 @@ fn newest(master: &[u64], receiver: PortIdentity) -> BestAnnounceMessage
     let held = slot::load_message(&master[at..at + slot::SLOT_WORDS], source);
     let message = held.message;
     BestAnnounceMessage {
-        message: message,
+        message,
         age: held.age,
         identity: receiver,
     }

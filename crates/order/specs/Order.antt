@@ -1,8 +1,8 @@
 -- How numbers and rows of numbers stand: the three-valued order in which the comparison and its laws are written.
 -- Assumes nothing.
 use Rattle.std.specs.Prelude.{ℕ, Bool, true, false, List, [], ◌∷◌, nat_lt}
-use Rattle.order.specs.declared.Ordering.{Ordering}
-use Rattle.order.specs.declared.Ordering.TheVariants.{Less, Equal, Greater}
+use Rattle.std.specs.declared.cmp.Ordering.{Ordering}
+use Rattle.std.specs.declared.cmp.Ordering.TheVariants.{Less, Equal, Greater}
 
 -- from the two tests a < b and b < a
 abbrev pub three : Bool → Bool → Ordering

@@ -1,13 +1,39 @@
 -- The laws of `cmp` and `lex`. `Stand xs ys o` says why two rows stand as o: a proof goes by its six cases, and a function's return
 -- finds one by `search stands`.
 -- Assumes nothing.
-use Rattle.std.specs.Prelude.{◌≡◌, ℕ, ◌<◌, ◌≤◌, List, [], ◌∷◌}
+use Rattle.std.specs.Prelude.{◌≡◌, ℕ, ◌<◌, ◌≤◌, List, [], ◌∷◌, nat_lt}
 use Rattle.std.specs.Prelude.{refl}
-use Rattle.std.proofs.Common.{ap₂, le_of_lt, le_antisymm, le_trans, lt_trans, lt_of_lt_of_le, lt_of_le_of_lt, le_refl, arith, lt-ltb, le-ltb}
+use Rattle.std.proofs.Common.{ap₂, le_of_lt, le_antisymm, le_trans, lt_trans, lt_of_lt_of_le, lt_of_le_of_lt, le_refl, arith, lt-ltb, le-ltb, eq-eqb, ne_eqb}
+use Rattle.std.specs.Ordering.{nat_cmp, ordering_then, is_lt, is_gt}
 use Rattle.std.proofs.Math.Decide.{dec_lt}
-use Rattle.order.specs.declared.Ordering.{Ordering}
-use Rattle.order.specs.declared.Ordering.TheVariants.{Less, Equal, Greater}
-use Rattle.order.specs.Order.{cmp, then_by, lex, flip}
+use Rattle.std.specs.declared.cmp.Ordering.{Ordering}
+use Rattle.std.specs.declared.cmp.Ordering.TheVariants.{Less, Equal, Greater}
+use Rattle.order.specs.Order.{three, cmp, then_by, lex, flip, is_less, is_greater}
+
+-- the words of the library, of which the contracts of `cmp`, `then` and `is_gt` speak
+pub cmp-library : (a b : ℕ) → nat_cmp a b ≡ cmp a b
+unfolding cmp
+cmp-library a b = go (dec_lt a b) (dec_lt b a)
+  where
+    go : Dec (a < b) → Dec (b < a) → nat_cmp a b ≡ three (nat_lt a b) (nat_lt b a)
+    go (yes h) d = simp (lt-ltb a b h)
+    go (no h) (yes k) = simp (le-ltb a b (le_of_lt k), lt-ltb b a k, ne_eqb a b (λ e. omega arith))
+    go (no h) (no k) = simp (le-ltb a b (omega arith), le-ltb b a (omega arith), eq-eqb a b (omega arith))
+
+pub then-library : (o p : Ordering) → ordering_then o p ≡ then_by o p
+then-library Less p = refl
+then-library Equal p = refl
+then-library Greater p = refl
+
+pub less-library : (o : Ordering) → is_lt o ≡ is_less o
+less-library Less = refl
+less-library Equal = refl
+less-library Greater = refl
+
+pub greater-library : (o : Ordering) → is_gt o ≡ is_greater o
+greater-library Less = refl
+greater-library Equal = refl
+greater-library Greater = refl
 
 pub cmp_less : (a b : ℕ) → a < b → cmp a b ≡ Less
 unfolding cmp

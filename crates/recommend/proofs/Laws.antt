@@ -1,15 +1,13 @@
 -- By candidates the choice is that by messages, and so is the number; and a number gives back its state.
 -- Assumes nothing.
-use Rattle.std.specs.Prelude.{ℕ, ◌≡◌, Bool, cond}
+use Rattle.std.specs.Prelude.{ℕ, ◌≡◌, Bool, cond, Option, Some, None}
 use Rattle.std.proofs.Math.Path.{refl}
 use Rattle.std.proofs.Common.{ap, ◌∙◌}
 use Rattle.std.proofs.Math.Bool.{true, false}
-use Rattle.std.proofs.Math.Option.{Option, none, some}
 use borrow.Author.Tests.{eq-eqb, ne_eqb}
 use Rattle.compare.specs.declared.InternalDefaultDS.{InternalDefaultDS}
 use Rattle.compare.specs.Dataset.{compare_of, is_by_topology}
 use Rattle.choice.specs.declared.BestAnnounceMessage.{BestAnnounceMessage}
-use Rattle.choice.specs.declared.Best.TheVariants.{Found}
 use Rattle.choice.specs.Choice.{AllOf}
 use Rattle.choice.specs.Candidate.{dataset_of, whole, stays_by}
 use Rattle.decision.specs.declared.RecommendedState.{RecommendedState}
@@ -22,11 +20,11 @@ use Rattle.recommend.specs.Number.{shown, keep_next, own_below, stays_as, number
 
 -- one step of the choice
 pub keep-shown : (held next : Option BestAnnounceMessage) → keep_next (shown held) (shown next) ≡ shown (keep_found held next)
-keep-shown held none = refl
-keep-shown none (some b) = refl
-keep-shown (some h) (some b) = go (stays_by whole h b)
+keep-shown held None = refl
+keep-shown None (Some b) = refl
+keep-shown (Some h) (Some b) = go (stays_by whole h b)
   where
-    go : (t : Bool) → Found (cond t (whole h) (whole b)) ≡ Found (whole (cond t h b))
+    go : (t : Bool) → Some (cond t (whole h) (whole b)) ≡ Some (whole (cond t h b))
     go true = refl
     go false = refl
 
@@ -40,8 +38,8 @@ module _ (own : InternalDefaultDS) (listening : Bool) where
   below-shown b = refl
 
   stays-shown : (p : Option BestAnnounceMessage) → stays_as listening (shown p) ≡ stays listening p
-  stays-shown none = refl
-  stays-shown (some b) = refl
+  stays-shown None = refl
+  stays-shown (Some b) = refl
 
   reason_number : (g p : Option BestAnnounceMessage) (s : RecommendedState) → OfOne g p → Reason own listening g p s → number_by own (shown g) (shown p) listening ≡ number_of s
   unfolding number_by

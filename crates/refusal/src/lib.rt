@@ -1,19 +1,20 @@
 // Whether a message is taken into the book, after register_announce_message of bmc/foreign_master.rs: the refusals, in their order.
 #![tactic(auto)]
 
-ghost use Rattle.std.specs.Prelude.{◌≡◌, true, ◌<◌, ◌≤◌, length, get_or};
+ghost use Rattle.std.specs.Prelude.{◌≡◌, ◌<◌, ◌≤◌, length, get_or};
 ghost use Rattle.slot.specs.Blocks.{block};
-ghost use Rattle.history.specs.Rules.{masters_max, listed_max};
-ghost use Rattle.book.specs.Layout.{master_words, port_words, head_words, store_words, master_at};
-ghost use Rattle.book.specs.Rules.{sound_words, HeldPort};
+ghost use Rattle.book.specs.Layout.{master_words, port_words, master_at, WholeHead, WholePort};
+ghost use Rattle.book.specs.Rules.{HeldPort, SoundStore};
+ghost use Rattle.refused.specs.Refusal.{number_in};
 ghost use Rattle.refusal.specs.Refusal.{order_at, room_refusal, refusal_at, refusal_in};
 
 use header::PortIdentity;
+use refused::Refusal;
 use slot::ForeignAnnounceMessage;
 
 // Whether a message may follow the last one of the master at a place; true at the place behind the last master.
 fn in_order(port: &[u64], place: usize, sequence: u16) -> bool
-    requires port_len { (length port.now ≡ port_words) × (get_or port.now 1 0 ≤ masters_max) }
+    requires port_len { WholePort port.now }
     requires bound { place < get_or port.now 1 0 → 1 ≤ get_or (block port.now (master_at place) master_words) 3 0 }
     ensures { result ≡ order_at port.now place sequence }
 {
@@ -27,7 +28,7 @@ fn in_order(port: &[u64], place: usize, sequence: u16) -> bool
     history::in_step(book::sequence_at(master, last), sequence as u64)
 }
 
-// The refusals of a registration on port k, after the frame's, in their order; 0 where there is none.
+// The refusals of a registration on port k, after the frame's, in their order.
 fn refusal_at(
     head: &[u64],
     port: &[u64],
@@ -35,51 +36,48 @@ fn refusal_at(
     source: PortIdentity,
     sequence: u16,
     steps: u16,
-) -> u8
-    requires head_len { (length head.now ≡ head_words) × (get_or head.now 3 0 ≤ listed_max) × (length port.now ≡ port_words) }
+) -> Result<(), Refusal>
+    requires head_len { WholeHead head.now × (length port.now ≡ port_words) }
     requires held_port { HeldPort head.now port.now }
-    ensures { result ≡ refusal_at head.now port.now k source sequence steps }
+    ensures { number_in result ≡ refusal_at head.now port.now k source sequence steps }
 {
     let own = PortIdentity {
         clock_identity: head[1],
         port_number: k,
     };
     if same::same_port(source, own) {
-        return 7;
+        return Err(Refusal::OwnPort);
     }
     if !book::acceptable(head, source.clock_identity) {
-        return 8;
+        return Err(Refusal::NotAcceptable);
     }
     if source.clock_identity == head[1] {
-        return 9;
+        return Err(Refusal::OwnClock);
     }
     let place = book::find_master(port, source.clock_identity, source.port_number as u64);
     if !in_order(port, place, sequence) {
-        return 10;
+        return Err(Refusal::Sequence);
     }
     if 255 <= steps {
-        return 11;
+        return Err(Refusal::Steps);
     }
     room_refusal(place, port[1] as usize)
 }
 
 // A new master on a port that is full is refused 12.
-fn room_refusal(place: usize, count: usize) -> u8
-    ensures { result ≡ room_refusal place count }
+fn room_refusal(place: usize, count: usize) -> Result<(), Refusal>
+    ensures { number_in result ≡ room_refusal place count }
 {
-    if place < count {
-        return 0;
+    if place < count || count < history::MASTERS {
+        return Ok(());
     }
-    if count < history::MASTERS {
-        return 0;
-    }
-    12
+    Err(Refusal::NinthMaster)
 }
 
 // The same on a port of the store that counts from 0.
-pub fn refusal(store: &[u64], q: usize, m: ForeignAnnounceMessage) -> u8
-    requires { (store_words ≤ length store.now) × (sound_words store.now ≡ true) × (q < get_or store.now 0 0) }
-    ensures { result ≡ refusal_in store.now q m }
+pub fn refusal(store: &[u64], q: usize, m: ForeignAnnounceMessage) -> Result<(), Refusal>
+    requires { SoundStore store.now × (q < get_or store.now 0 0) }
+    ensures { number_in result ≡ refusal_in store.now q m }
 {
     let message = m.message;
     let header = message.header;

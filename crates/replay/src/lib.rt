@@ -25,8 +25,8 @@ fn decoded(line: &[u8], n: usize, bytes: &mut [u8], place: Place) -> Next
     ensures { NextWithin (length bytes.old) result }
 {
     match hex_line::decode(&line[..n], bytes) {
-        hex_line::Decoded::Bytes(count) => Next::Bytes { count, place },
-        hex_line::Decoded::Bad => Next::Bad { place },
+        Some(count) => Next::Bytes { count, place },
+        None => Next::Bad { place },
     }
 }
 
@@ -47,13 +47,9 @@ pub fn next_bytes(
     }
 }
 
-fn wide(x: u8) -> u64 {
-    x as u64
-}
-
 // Writes the number that opens an answer.
 pub fn print_first(x: u8) {
-    io::print_hex(STDOUT_FILENO, x as u64, 2);
+    io::print_hex(STDOUT_FILENO, u64::from(x), 2);
 }
 
 // Writes a space and a number of so many digits.
@@ -63,29 +59,23 @@ pub fn print(x: u64, digits: usize) {
 }
 
 pub fn print8(x: u8) {
-    print(x as u64, 2);
+    print(u64::from(x), 2);
 }
 
 pub fn print16(x: u16) {
-    print(x as u64, 4);
+    print(u64::from(x), 4);
 }
 
 // Writes a space and a flag, or whether a number is negative.
 pub fn print_flag(set: bool) {
-    if set {
-        print(1, 1);
-    } else {
-        print(0, 1);
-    }
+    print(u64::from(set), 1);
 }
 
 // Writes a space and bytes.
 pub fn print_bytes(s: &[u8]) {
     io::write_all(STDOUT_FILENO, b" ");
-    let mut i = 0;
-    while i < s.len() {
-        io::print_hex(STDOUT_FILENO, wide(s[i]), 2);
-        i += 1;
+    for x in s {
+        io::print_hex(STDOUT_FILENO, u64::from(*x), 2);
     }
 }
 

@@ -10,13 +10,8 @@ ghost use Rattle.std.specs.Prelude.{◌≡◌, ◌<◌, ◌≤◌, length};
 
 use announce::ClockQuality;
 use book::STORE_WORDS;
-use foreign_master::{Answer, Tallies};
-use input::Place;
-use replay::Next;
-use std::io::Stdin;
-
-// The longest line.
-const MAX_LINE: usize = 2048;
+use foreign_master::Tallies;
+use refused::Refusal;
 
 // The longest lists that a line has room for.
 const MAX_WORDS: usize = 256;
@@ -32,48 +27,38 @@ fn word_at(s: &[u8], i: usize) -> u64
     requires { i < 256 }
 {
     if i * 8 + 8 <= s.len() {
-        return wire::u64_at(s, i * 8);
+        wire::u64_at(s, i * 8)
+    } else {
+        0
     }
-    0
 }
 
 // The numbers that a part of a line is made of.
 fn words_of(s: &[u8]) -> [u64; 256]
     ensures { 256 ≡ length result }
 {
-    let mut list = [0u64; MAX_WORDS];
-    for i in 0..MAX_WORDS {
-        list[i] = word_at(s, i);
-    }
-    list
+    std::array::from_fn(|i| word_at(s, i))
 }
 
-// Starts afresh with the first words of two lists: the number of the answer.
-fn start_with(
+// Starts afresh with the lists of a line. None is longer than there is room for.
+fn start(
     store: &mut [u64],
     own: u64,
     any: bool,
-    clocks: &[u64],
-    listed: usize,
-    times: &[u64],
-    ports: usize,
-) -> u8 {
-    if clocks.len() < listed {
-        return 14;
-    }
-    if times.len() < ports {
-        return 14;
-    }
-    foreign_master::fresh_start(store, own, any, &clocks[0..listed], &times[0..ports])
-}
-
-// The same with the lists of a line.
-fn start(store: &mut [u64], own: u64, any: bool, listed: &[u8], intervals: &[u8]) -> u8 {
+    listed: &[u8],
+    intervals: &[u8],
+) -> Result<(), Refusal> {
     let clocks = words_of(listed);
     let times = words_of(intervals);
-    let n = listed.len() / 8;
-    let ports = intervals.len() / 8;
-    start_with(store, own, any, &clocks, n, &times, ports)
+    match (
+        clocks.get(..listed.len() / 8),
+        times.get(..intervals.len() / 8),
+    ) {
+        (Some(listed), Some(intervals)) => {
+            foreign_master::fresh_start(store, own, any, listed, intervals)
+        }
+        _ => Err(Refusal::OutOfRange),
+    }
 }
 
 // Where the list ends that has so many clocks.
@@ -87,25 +72,21 @@ fn list_end(count: u8) -> usize
 fn answer_start(store: &mut [u64], s: &[u8]) -> bool
     requires { 6580 ≤ length store.old }
 {
-    if s.len() < START_SIZE {
-        return false;
-    }
-    if 1 < s[8] {
+    if s.len() < START_SIZE || 1 < s[8] {
         return false;
     }
     let end = list_end(s[9]);
-    if s.len() < end {
-        return false;
-    }
-    if s.len() % 8 != START_SIZE % 8 {
+    if s.len() < end || s.len() % 8 != START_SIZE % 8 {
         return false;
     }
     let own = wire::u64_at(s, 0);
     let any = s[8] == 0;
-    let n = start(store, own, any, &s[START_SIZE..end], &s[end..]);
-    replay::print_first(n);
-    if n == 0 {
-        told::print_book(store, false);
+    match start(store, own, any, &s[START_SIZE..end], &s[end..]) {
+        Ok(()) => {
+            replay::print_first(0);
+            told::print_book(store, false);
+        }
+        Err(why) => replay::print_first(why.number()),
     }
     true
 }
@@ -127,59 +108,45 @@ fn nothing() -> Tallies {
 }
 
 // Writes the start of the answer to a frame; whether the book follows. The crate's yes covers done and 9 to 12, its no 7 and 8.
-fn print_answer(answer: Answer) -> bool {
+fn print_answer(answer: Result<Tallies, Refusal>) -> bool {
     match answer {
-        Answer::Done(t) => {
-            print_heard(true, t);
-            true
+        Ok(t) => print_heard(true, t),
+        Err(Refusal::OwnPort | Refusal::NotAcceptable) => print_heard(false, nothing()),
+        Err(Refusal::OwnClock | Refusal::Sequence | Refusal::Steps | Refusal::NinthMaster) => {
+            print_heard(true, nothing());
         }
-        Answer::Refused(n) => match n {
-            7..=8 => {
-                print_heard(false, nothing());
-                true
-            }
-            9..=12 => {
-                print_heard(true, nothing());
-                true
-            }
-            _ => {
-                replay::print_first(n);
-                false
-            }
-        },
+        Err(why) => {
+            replay::print_first(why.number());
+            return false;
+        }
     }
-}
-
-fn wide(x: u8) -> u16 {
-    x as u16
+    true
 }
 
 // A frame at a port.
 fn answer_frame(store: &mut [u64], s: &[u8]) -> bool
     requires { 6580 ≤ length store.old }
 {
-    if s.len() == 0 {
+    let Some((port, frame)) = s.split_first() else {
         return false;
-    }
-    let port = wide(s[0]);
-    let answer = foreign_master::register_announce_message(store, port, &s[1..]);
-    if print_answer(answer) {
+    };
+    if print_answer(foreign_master::register_announce_message(store, u16::from(*port), frame)) {
         told::print_book(store, false);
     }
     true
 }
 
 // Writes how many messages aged out; whether the book follows.
-fn print_aged(answer: Answer) -> bool {
+fn print_aged(answer: Result<Tallies, Refusal>) -> bool {
     match answer {
-        Answer::Done(t) => {
+        Ok(t) => {
             replay::print_first(0);
             replay::print(t.aged_out, 1);
             told::print_others(t.evicted, t.consumed);
             true
         }
-        Answer::Refused(n) => {
-            replay::print_first(n);
+        Err(why) => {
+            replay::print_first(why.number());
             false
         }
     }
@@ -192,8 +159,7 @@ fn answer_step(store: &mut [u64], s: &[u8]) -> bool
     if s.len() != 8 {
         return false;
     }
-    let answer = foreign_master::step_age(store, wire::u64_at(s, 0));
-    if print_aged(answer) {
+    if print_aged(foreign_master::step_age(store, wire::u64_at(s, 0))) {
         told::print_book(store, false);
     }
     true
@@ -203,7 +169,7 @@ fn answer_step(store: &mut [u64], s: &[u8]) -> bool
 fn answer_wish(store: &[u64], s: &[u8]) -> bool
     requires { 6580 ≤ length store.now }
 {
-    if s.len() != 0 {
+    if !s.is_empty() {
         return false;
     }
     told::print_book(store, true);
@@ -234,11 +200,9 @@ fn answer_decision(store: &mut [u64], s: &[u8]) -> bool
 fn answer_line(store: &mut [u64], line: &[u8]) -> bool
     requires { 6580 ≤ length store.old }
 {
-    if line.len() == 0 {
+    let Some((kind, rest)) = line.split_first() else {
         return false;
-    }
-    let kind = line[0];
-    let rest = &line[1..];
+    };
     match kind {
         0 => answer_start(store, rest),
         1 => answer_frame(store, rest),
@@ -249,75 +213,7 @@ fn answer_line(store: &mut [u64], line: &[u8]) -> bool
     }
 }
 
-// Answers the line of n bytes at the start of the buffer. More than it has, which no line has, are a bad line.
-fn answer(store: &mut [u64], bytes: &[u8], n: usize)
-    requires { 6580 ≤ length store.old }
-{
-    if bytes.len() < n {
-        replay::print_bad();
-        return;
-    }
-    if answer_line(store, &bytes[0..n]) {
-        replay::print_end();
-    } else {
-        replay::print_bad();
-    }
-}
-
-// Answers what the input holds next.
-fn answer_next(store: &mut [u64], bytes: &[u8], next: Next)
-    requires { 6580 ≤ length store.old }
-{
-    match next {
-        Next::Bytes { count, place: _ } => {
-            answer(store, bytes, count);
-        }
-        Next::Bad { place: _ } => {
-            replay::print_bad();
-        }
-        Next::End => {}
-    }
-}
-
-// Where the program stands after it.
-fn place_after(next: Next) -> Place {
-    match next {
-        Next::Bytes { count: _, place } => place,
-        Next::Bad { place } => place,
-        Next::End => Place::start(),
-    }
-}
-
-fn is_end(next: Next) -> bool {
-    match next {
-        Next::Bytes { count: _, place: _ } => false,
-        Next::Bad { place: _ } => false,
-        Next::End => true,
-    }
-}
-
-// Answers each line of the input. A proved loop has to end, and nothing says that the input does: the turns are counted down from a number
-// that no run uses up.
-fn run(stdin: Stdin, store: &mut [u64], block: &mut [u8], line: &mut [u8], bytes: &mut [u8])
-    requires { 6580 ≤ length store.old }
-{
-    let mut place = Place::start();
-    let mut turns = u64::MAX;
-    while turns > 0 {
-        let next = replay::next_bytes(stdin, place, block, line, bytes);
-        if is_end(next) {
-            return;
-        }
-        answer_next(store, bytes, next);
-        place = place_after(next);
-        turns -= 1;
-    }
-}
-
 fn main(rt: HostRuntime) {
     let mut store = [0u64; STORE_WORDS];
-    let mut block = io::large_buffer();
-    let mut line = io::buffer();
-    let mut bytes = [0u8; MAX_LINE];
-    run(rt.stdin(), &mut store, &mut block, &mut line, &mut bytes);
+    replay_lines::run(rt.stdin(), |line| answer_line(&mut store, line));
 }

@@ -2,35 +2,32 @@
 // the lines of the oracle's subcommand codec.
 #![tactic(auto)]
 
-ghost use Rattle.std.specs.Prelude.{◌≤◌, length};
-
-use announce::{AnnounceMessage, AnnounceRead, CONTENT_SIZE};
-use header::{DeserializedHeader, HEADER_SIZE, Header, HeaderRead};
+use announce::{AnnounceMessage, CONTENT_SIZE};
+use header::{DeserializedHeader, HEADER_SIZE, Header};
+use message_type::MessageType;
 use replay::{print, print_bytes, print_flag, print8, print16};
-use std::io::Stdin;
-
-// The number of an announce.
-const ANNOUNCE: u8 = 0xb;
-
-// The longest frame.
-const MAX_FRAME: usize = 2048;
 
 // What lies where a message is written to.
 const UNWRITTEN: u8 = 0xa5;
 
 fn print_flags(h: Header) {
-    print_flag(h.alternate_master_flag);
-    print_flag(h.two_step_flag);
-    print_flag(h.unicast_flag);
-    print_flag(h.ptp_profile_specific_1);
-    print_flag(h.ptp_profile_specific_2);
-    print_flag(h.leap61);
-    print_flag(h.leap59);
-    print_flag(h.current_utc_offset_valid);
-    print_flag(h.ptp_timescale);
-    print_flag(h.time_tracable);
-    print_flag(h.frequency_tracable);
-    print_flag(h.synchronization_uncertain);
+    let flags = [
+        h.alternate_master_flag,
+        h.two_step_flag,
+        h.unicast_flag,
+        h.ptp_profile_specific_1,
+        h.ptp_profile_specific_2,
+        h.leap61,
+        h.leap59,
+        h.current_utc_offset_valid,
+        h.ptp_timescale,
+        h.time_tracable,
+        h.frequency_tracable,
+        h.synchronization_uncertain,
+    ];
+    for flag in flags {
+        print_flag(flag);
+    }
 }
 
 // Writes what follows the flags.
@@ -39,12 +36,12 @@ fn print_rest(h: Header) {
     let source = h.source_port_identity;
     let interval = h.log_message_interval;
     print_flag(correction < 0);
-    print(wire::bits64(correction), 16);
+    print(correction.cast_unsigned(), 16);
     print(source.clock_identity, 16);
     print16(source.port_number);
     print16(h.sequence_id);
     print_flag(interval < 0);
-    print8(wire::bits8(interval));
+    print8(interval.cast_unsigned());
 }
 
 fn print_header(d: DeserializedHeader) {
@@ -66,9 +63,9 @@ fn print_announce(a: AnnounceMessage) {
     let offset = a.current_utc_offset;
     let quality = a.grandmaster_clock_quality;
     print(origin.seconds, 12);
-    print(origin.nanos as u64, 8);
+    print(u64::from(origin.nanos), 8);
     print_flag(offset < 0);
-    print16(wire::bits16(offset));
+    print16(offset.cast_unsigned());
     print8(a.grandmaster_priority_1);
     print8(quality.clock_class);
     print8(quality.clock_accuracy);
@@ -81,93 +78,47 @@ fn print_announce(a: AnnounceMessage) {
 
 // Writes the header again, over a content of the length that the message's length field says: none where it says less than a header.
 fn print_header_again(d: DeserializedHeader) {
-    let h = d.header;
-    let message_type = d.message_type;
-    let size = d.message_length as usize;
-    let content = if size < HEADER_SIZE {
-        0
-    } else {
-        size - HEADER_SIZE
-    };
+    let content = usize::from(d.message_length).saturating_sub(HEADER_SIZE);
     let mut target = [UNWRITTEN; HEADER_SIZE];
-    header_writer::serialize_header(h, message_type, content, &mut target);
+    let _ = header_writer::serialize_header(d.header, d.message_type, content, &mut target);
     print_bytes(&target);
 }
 
 // Writes the content again.
 fn print_announce_again(a: AnnounceMessage) {
     let mut target = [UNWRITTEN; CONTENT_SIZE];
-    announce_writer::serialize_content(a, &mut target);
+    let _ = announce_writer::serialize_content(a, &mut target);
     print_bytes(&target);
 }
 
 // Answers the content of an announce.
 fn answer_content(h: Header, content: &[u8]) {
     match announce::deserialize_content(h, content) {
-        AnnounceRead::Done(a) => {
+        Ok(a) => {
             print8(0);
             print_announce(a);
             print_announce_again(a);
         }
-        AnnounceRead::Refused(why) => {
-            print8(why);
-        }
+        Err(why) => print8(why.number()),
     }
 }
 
-// Answers a frame.
-fn answer_frame(frame: &[u8]) {
+// Answers a frame: any line has the right shape.
+fn answer_frame(frame: &[u8]) -> bool {
     match header::deserialize_header(frame) {
-        HeaderRead::Done(d) => {
+        Ok(d) => {
             replay::print_first(0);
             print_header(d);
             print_header_again(d);
-            let h = d.header;
-            let message_type = d.message_type;
-            if message_type.number() == ANNOUNCE {
-                answer_content(h, &frame[HEADER_SIZE..]);
+            if d.message_type == MessageType::Announce {
+                answer_content(d.header, &frame[HEADER_SIZE..]);
             }
         }
-        HeaderRead::Refused(why) => {
-            replay::print_first(why);
-        }
+        Err(why) => replay::print_first(why.number()),
     }
-}
-
-// Answers the frame of n bytes at the start of the buffer.
-fn answer(bytes: &[u8], n: usize)
-    requires { n ≤ length bytes.now }
-{
-    answer_frame(&bytes[..n]);
-    replay::print_end();
-}
-
-// Answers each line of the input. A proved loop has to end, and nothing says that the input does: the turns are counted down from a number
-// that no run uses up.
-fn run(stdin: Stdin, block: &mut [u8], line: &mut [u8], bytes: &mut [u8]) {
-    let mut place = input::Place::start();
-    let mut turns = u64::MAX;
-    while turns > 0 {
-        match replay::next_bytes(stdin, place, block, line, bytes) {
-            replay::Next::Bytes { count, place: next } => {
-                answer(bytes, count);
-                place = next;
-            }
-            replay::Next::Bad { place: next } => {
-                replay::print_bad();
-                place = next;
-            }
-            replay::Next::End => {
-                return;
-            }
-        }
-        turns -= 1;
-    }
+    true
 }
 
 fn main(rt: HostRuntime) {
-    let mut block = io::large_buffer();
-    let mut line = io::buffer();
-    let mut bytes = [0u8; MAX_FRAME];
-    run(rt.stdin(), &mut block, &mut line, &mut bytes);
+    replay_lines::run(rt.stdin(), answer_frame);
 }

@@ -4,8 +4,7 @@ ghost use Rattle.std.specs.Prelude.{◌+◌, ◌*◌, ◌≤◌, ◌<◌, length
 use announce::{AnnounceMessage, ClockQuality, WireTimestamp};
 use choice::{BestAnnounceMessage, Candidate};
 use compare::{ComparisonDataset, InternalDefaultDS};
-use decision::BestMessage;
-use frame::{FrameRead, TLV_START};
+use frame::TLV_START;
 use header::{Header, PortIdentity, PtpVersion};
 
 // The sizes of our own data, a set, a candidate, and a message with its age and receiver.
@@ -19,13 +18,6 @@ const MESSAGE_SIZE: usize = TLV_START + 18;
 
 // The most candidates of a line.
 pub const MAX_CANDIDATES: usize = 48;
-
-// What stands for Ebest or Erbest in a line.
-#[derive(Clone, Copy)]
-pub enum OptionRead {
-    Read(BestMessage),
-    Bad,
-}
 
 fn quality_at(s: &[u8], at: usize) -> ClockQuality
     requires { at + 4 ≤ length s.now }
@@ -59,7 +51,7 @@ fn header_of(sender: u64, sequence: u16) -> Header {
     };
     Header {
         sdo_id: 0,
-        version: version,
+        version,
         domain_number: 0,
         alternate_master_flag: false,
         two_step_flag: false,
@@ -120,7 +112,7 @@ pub fn best_at(s: &[u8], place: usize) -> BestAnnounceMessage
     let message = announce_at(s, at, place as u16);
     let receiver = header::port_identity_at(s, at + 24);
     BestAnnounceMessage {
-        message: message,
+        message,
         age: wire::u64_at(s, at + 34),
         identity: receiver,
     }
@@ -131,23 +123,6 @@ pub fn port_at(s: &[u8], place: usize) -> u16
     requires { (place < 48) × (place * 42 + 42 ≤ length s.now) }
 {
     wire::u16_at(s, place * CANDIDATE_SIZE + 32)
-}
-
-fn no_candidate() -> Candidate {
-    Candidate {
-        gm_priority_1: 0,
-        clock_class: 0,
-        clock_accuracy: 0,
-        gm_priority_2: 0,
-        offset_scaled_log_variance: 0,
-        steps_removed: 0,
-        receiver_port: 0,
-        gm_identity: 0,
-        sender: 0,
-        receiver_clock: 0,
-        age: 0,
-        place: 0,
-    }
 }
 
 // The candidate at a place as the choice takes it.
@@ -161,32 +136,26 @@ fn candidate_at(s: &[u8], place: usize) -> Candidate
 pub fn candidates(s: &[u8], first: usize, end: usize) -> [Candidate; 96]
     requires { (end ≤ 48) × (end * 42 ≤ length s.now) }
 {
-    let none = no_candidate();
-    let mut list = [none; 96];
-    let mut place = first;
-    while place < end {
+    let mut list = [replay_states::no_candidate(); 96];
+    for place in first..end {
         list[place - first] = candidate_at(s, place);
-        place += 1;
     }
     list
 }
 
 // A whole message: a frame without TLVs, then its age and its receiver.
-fn message_at(s: &[u8]) -> OptionRead
+fn message_at(s: &[u8]) -> Option<BestAnnounceMessage>
     requires { 82 ≤ length s.now }
 {
     let age = wire::u64_at(s, TLV_START);
-    let receiver = header::port_identity_at(s, TLV_START + 8);
+    let identity = header::port_identity_at(s, TLV_START + 8);
     match frame::read_frame(&s[0..TLV_START]) {
-        FrameRead::Done(read) => {
-            let message = read.announce;
-            OptionRead::Read(BestMessage::Found(BestAnnounceMessage {
-                message: message,
-                age: age,
-                identity: receiver,
-            }))
-        }
-        FrameRead::Refused(_) => OptionRead::Bad,
+        Ok(read) => Some(BestAnnounceMessage {
+            message: read.announce,
+            age,
+            identity,
+        }),
+        Err(_) => None,
     }
 }
 
@@ -194,30 +163,22 @@ fn message_at(s: &[u8]) -> OptionRead
 pub fn option_size(s: &[u8]) -> usize
     ensures { result ≤ length s.now }
 {
-    if s.len() == 0 {
-        return 0;
+    if s.is_empty() {
+        0
+    } else if s[0] == 0 || s.len() <= MESSAGE_SIZE {
+        1
+    } else {
+        MESSAGE_SIZE + 1
     }
-    if s[0] == 0 {
-        return 1;
-    }
-    if s.len() <= MESSAGE_SIZE {
-        return 1;
-    }
-    MESSAGE_SIZE + 1
 }
 
-// An option: 00, or 01 and a message.
-pub fn option(s: &[u8]) -> OptionRead {
-    if s.len() == 1 {
-        if s[0] == 0 {
-            return OptionRead::Read(BestMessage::Nothing);
-        }
-        return OptionRead::Bad;
+// An option: 00, or 01 and a message. Anything else has not the right shape.
+pub fn option(s: &[u8]) -> Option<Option<BestAnnounceMessage>> {
+    if s.len() == 1 && s[0] == 0 {
+        return Some(None);
     }
-    if s.len() == MESSAGE_SIZE + 1 {
-        if s[0] == 1 {
-            return message_at(&s[1..]);
-        }
+    if s.len() == MESSAGE_SIZE + 1 && s[0] == 1 {
+        return message_at(&s[1..]).map(Some);
     }
-    OptionRead::Bad
+    None
 }

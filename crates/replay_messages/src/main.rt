@@ -5,14 +5,13 @@
 ghost use Rattle.std.specs.Prelude.{◌≤◌, length};
 
 use announce::AnnounceMessage;
-use frame::{FrameRead, TLV_START};
+use frame::TLV_START;
 use replay::{print_bytes, print_flag, print8, print16};
-use std::io::Stdin;
 use tlv::{TlvCursor, TlvRead};
-use tlv_builder::{Added, TlvSetBuilder};
+use tlv_builder::TlvSetBuilder;
 use tlv_type::TlvType;
 
-// The longest frame.
+// The longest frame, as long as the bytes of a line.
 const MAX_FRAME: usize = 2048;
 
 // The longest list of TLVs in a frame.
@@ -24,11 +23,11 @@ const BEHIND: usize = 2;
 // What lies where entries and messages are written to.
 const UNWRITTEN: u8 = 0xa5;
 
-// Writes what an entry's type and length are.
+// Writes what an entry's type and length are. A kind without a name has the code 0.
 fn print_entry(tlv_type: u16, len: usize) {
-    let kind = TlvType::from_primitive(tlv_type);
-    print16(kind.to_primitive());
-    print8(kind_code::name_code(kind));
+    let kind = TlvType::from(tlv_type);
+    print16(u16::from(kind));
+    print8(kind_code::name_code(kind).unwrap_or(0));
     print_flag(kind.announce_propagate());
     replay::print(len as u64, 4);
 }
@@ -44,9 +43,9 @@ fn add_entry(
     ensures { result.used ≤ length buffer.old }
 {
     match builder.add(buffer, tlv_type, value) {
-        Added::Done(after) => after,
-        Added::Refused(why) => {
-            print8(why);
+        Ok(after) => after,
+        Err(why) => {
+            print8(why.number());
             builder
         }
     }
@@ -61,22 +60,22 @@ fn answer_tlvs(tlvs: &[u8], buffer: &mut [u8]) -> usize
     let mut builder = TlvSetBuilder::new();
     loop {
         match cursor.next(tlvs) {
-            TlvRead::Entry {
-                tlv_type,
-                start,
-                len,
-                next,
-            } => {
+            Ok(
+                TlvRead::Entry {
+                    tlv_type,
+                    start,
+                    len,
+                    next,
+                },
+            ) => {
                 let end = start + len;
                 print_entry(tlv_type, len);
                 builder = add_entry(builder, buffer, tlv_type, &tlvs[start..end]);
                 cursor = next;
             }
-            TlvRead::End => {
-                return builder.used;
-            }
-            TlvRead::Refused(why) => {
-                print8(why);
+            Ok(TlvRead::End) => return builder.used,
+            Err(why) => {
+                print8(why.number());
                 return builder.used;
             }
         }
@@ -85,9 +84,8 @@ fn answer_tlvs(tlvs: &[u8], buffer: &mut [u8]) -> usize
 
 // Writes the message again. A refusal, which a message that was read has none of, is shown.
 fn answer_again(a: AnnounceMessage, tlvs: &[u8], target: &mut [u8]) {
-    let status = frame_writer::write_frame(a, tlvs, target);
-    if status != 0 {
-        print8(status);
+    if let Err(why) = frame_writer::write_frame(a, tlvs, target) {
+        print8(why.number());
     }
     print_bytes(target);
 }
@@ -101,56 +99,20 @@ fn answer_message(a: AnnounceMessage, tlvs: &[u8]) {
     answer_again(a, &buffer[..used], &mut target[..size]);
 }
 
-// Answers a frame.
-fn answer_frame(frame: &[u8]) {
+// Answers a frame: any line has the right shape.
+fn answer_frame(frame: &[u8]) -> bool {
     match frame::read_frame(frame) {
-        FrameRead::Done(message) => {
+        Ok(message) => {
             replay::print_first(0);
-            let a = message.announce;
             let start = message.tlv_start;
             let end = message.tlv_end;
-            answer_message(a, &frame[start..end]);
+            answer_message(message.announce, &frame[start..end]);
         }
-        FrameRead::Refused(why) => {
-            replay::print_first(why);
-        }
+        Err(why) => replay::print_first(why.number()),
     }
-}
-
-// Answers the frame of n bytes at the start of the buffer.
-fn answer(bytes: &[u8], n: usize)
-    requires { n ≤ length bytes.now }
-{
-    answer_frame(&bytes[..n]);
-    replay::print_end();
-}
-
-// Answers each line of the input. A proved loop has to end, and nothing says that the input does: the turns are counted down from a number
-// that no run uses up.
-fn run(stdin: Stdin, block: &mut [u8], line: &mut [u8], bytes: &mut [u8]) {
-    let mut place = input::Place::start();
-    let mut turns = u64::MAX;
-    while turns > 0 {
-        match replay::next_bytes(stdin, place, block, line, bytes) {
-            replay::Next::Bytes { count, place: next } => {
-                answer(bytes, count);
-                place = next;
-            }
-            replay::Next::Bad { place: next } => {
-                replay::print_bad();
-                place = next;
-            }
-            replay::Next::End => {
-                return;
-            }
-        }
-        turns -= 1;
-    }
+    true
 }
 
 fn main(rt: HostRuntime) {
-    let mut block = io::large_buffer();
-    let mut line = io::buffer();
-    let mut bytes = [0u8; MAX_FRAME];
-    run(rt.stdin(), &mut block, &mut line, &mut bytes);
+    replay_lines::run(rt.stdin(), answer_frame);
 }

@@ -5,7 +5,7 @@ use Rattle.wire.specs.Refusal.{on_zero}
 use Rattle.announce.specs.declared.ClockQuality.{ClockQuality}
 use Rattle.frame_writer.specs.Frame as frame
 use Rattle.compare.specs.Dataset.{compare_of}
-use Rattle.choice.specs.Candidate.{dataset_of, best_of, winner, itself}
+use Rattle.choice.specs.Candidate.{dataset_of, winner, itself}
 use Rattle.announce_words.specs.Words.{announce_refusal, announce_in}
 use Rattle.candidate_words.specs.Words.{candidate_refusal, candidate_in, candidates_of, list_refusal}
 use Rattle.answers.specs.Answers.{verdict_number, best_words}
@@ -31,7 +31,7 @@ abbrev pub choose_number : List ℕ → ℕ
 choose_number ws = list_refusal ws
 
 unfoldable pub choose_words : List ℕ → List ℕ
-choose_words ws = on_zero (list_refusal ws) (best_words (best_of (winner itself (candidates_of ws)))) (λ _. [])
+choose_words ws = on_zero (list_refusal ws) (best_words (winner itself (candidates_of ws))) (λ _. [])
 
 -- the writing of an announce: the refusal of its words, then that of the writer; and the buffer afterwards
 unfoldable pub write_number : (ws tlvs buffer : List ℕ) → ℕ

@@ -5,6 +5,7 @@
 
 ghost use Rattle.std.specs.Prelude.{◌≡◌, length};
 ghost use Rattle.wire.specs.Be.{put};
+ghost use Rattle.refused.specs.Refusal.{number_in};
 ghost use Rattle.frame.specs.Frame.{read_frame};
 ghost use Rattle.tlv.specs.Tlv.{read_at};
 ghost use Rattle.book.specs.Layout.{store_words};
@@ -28,6 +29,7 @@ ghost use Rattle.answers.specs.Answers.{
   tlv_words,
   candidate_number,
   candidate_told,
+  decision_number,
   decision_words,
 };
 ghost use Rattle.rillarch.specs.Calls.{
@@ -42,6 +44,7 @@ ghost use Rattle.rillarch.specs.Calls.{
 };
 
 use announce::ClockQuality;
+use refused::Refusal;
 use tlv::TlvCursor;
 
 // How many words a store must have.
@@ -55,7 +58,7 @@ pub fn rillarch_store_words() -> u32
 pub fn rillarch_check(store: &[u64]) -> u32
     ensures { result ≡ store_refusal store.now }
 {
-    book::check(store) as u32
+    answers::number(book::check(store))
 }
 
 // Starts afresh, as foreign_master::fresh_start does; any master is acceptable where `any` is not 0.
@@ -69,7 +72,8 @@ pub fn rillarch_fresh_start(
     ensures value { result ≡ fresh_answer store.old (site_with own_clock (is_set any) listed.now) intervals.now }
     ensures store_after { store.new ≡ fresh_exit store.old (site_with own_clock (is_set any) listed.now) intervals.now }
 {
-    foreign_master::fresh_start(store, own_clock, any != 0, listed, intervals) as u32
+    let told = foreign_master::fresh_start(store, own_clock, any != 0, listed, intervals);
+    answers::number(told)
 }
 
 // Registers the frame that a port received, as foreign_master::register_announce_message does.
@@ -110,7 +114,7 @@ pub fn rillarch_decide(
     listening: u8,
     answer: &mut [u64],
 ) -> u32
-    ensures value { result ≡ lent decision_size answer.old 1 (decide_answer store.old priority_1 (quality_of class accuracy variance) priority_2 listening).number }
+    ensures value { result ≡ lent decision_size answer.old 1 (decision_number (decide_answer store.old priority_1 (quality_of class accuracy variance) priority_2 listening)) }
     ensures store_after { store.new ≡ lent decision_size answer.old store.old (decide_exit store.old) }
     ensures answer_after { answer.new ≡ lent decision_size answer.old answer.old (put answer.old 0 (decision_words (decide_answer store.old priority_1 (quality_of class accuracy variance) priority_2 listening))) }
 {
@@ -139,6 +143,14 @@ pub fn rillarch_candidate(store: &[u64], place: u64, answer: &mut [u64]) -> u32
     answers::tell_candidate(candidates::candidate(store, place), answer)
 }
 
+// Whether the words of two candidates are taken, those on the left first.
+fn check_both(left: &[u64], right: &[u64]) -> Result<(), Refusal>
+    ensures { number_in result ≡ compare_number left.now right.now }
+{
+    candidate_words::refusal(left)?;
+    candidate_words::refusal(right)
+}
+
 // The verdict on the left of two candidates: 1 where the left, then where the right has too few words, each then 15 where a word does
 // not fit its field.
 pub fn rillarch_compare(left: &[u64], right: &[u64], answer: &mut [u64]) -> u32
@@ -148,18 +160,15 @@ pub fn rillarch_compare(left: &[u64], right: &[u64], answer: &mut [u64]) -> u32
     if answer.len() < 1 {
         return 1;
     }
-    let n = candidate_words::refusal(left);
-    if n != 0 {
-        return n as u32;
+    match check_both(left, right) {
+        Err(e) => e.number() as u32,
+        Ok(()) => {
+            let ours = candidate_words::candidate_of(left);
+            let theirs = candidate_words::candidate_of(right);
+            answer[0] = answers::verdict_number(ours.compare_dataset(theirs));
+            0
+        }
     }
-    let n = candidate_words::refusal(right);
-    if n != 0 {
-        return n as u32;
-    }
-    let ours = candidate_words::candidate_of(left);
-    let theirs = candidate_words::candidate_of(right);
-    answer[0] = answers::verdict_number(ours.compare_dataset(theirs));
-    0
 }
 
 // The choice over a list of candidates, as find_best::find_best makes it.
@@ -170,11 +179,10 @@ pub fn rillarch_choose(candidates: &[u64], answer: &mut [u64]) -> u32
     if answer.len() < answers::FOUND_WORDS {
         return 1;
     }
-    let n = candidate_words::list_refusal(candidates);
-    if n != 0 {
-        return n as u32;
+    match candidate_words::list_refusal(candidates) {
+        Err(e) => e.number() as u32,
+        Ok(()) => answers::tell_best(candidate_words::find_best(candidates), answer),
     }
-    answers::tell_best(candidate_words::find_best(candidates), answer)
 }
 
 // Reads a frame, as frame::read_frame does.
@@ -194,11 +202,13 @@ pub fn rillarch_write_announce(announce: &[u64], tlvs: &[u8], buffer: &mut [u8])
     ensures value { result ≡ write_number announce.now tlvs.now buffer.old }
     ensures buffer_after { buffer.new ≡ write_exit announce.now tlvs.now buffer.old }
 {
-    let n = announce_words::refusal(announce);
-    if n != 0 {
-        return n as u32;
+    match announce_words::refusal(announce) {
+        Err(e) => e.number() as u32,
+        Ok(()) => {
+            let message = announce_words::announce_of(announce);
+            answers::number(frame_writer::write_frame(message, tlvs, buffer))
+        }
     }
-    frame_writer::write_frame(announce_words::announce_of(announce), tlvs, buffer) as u32
 }
 
 // The entry at a place of a list of TLVs, as TlvCursor::next reads it: later ones are not looked at.

@@ -19,6 +19,7 @@ ghost use Rattle.answers.specs.Answers.{
   tlv_size,
   found_size,
   decision_size,
+  decision_number,
   answer_number,
   answer_words,
   frame_number,
@@ -108,7 +109,7 @@ pub extern "C" fn rillarch_decide(
     listening: u8,
     answer: &mut [u64],
 ) -> u32
-    ensures value { result ≡ lent decision_size answer.old 1 (decide_answer store.old priority_1 (quality_of class accuracy variance) priority_2 listening).number }
+    ensures value { result ≡ lent decision_size answer.old 1 (decision_number (decide_answer store.old priority_1 (quality_of class accuracy variance) priority_2 listening)) }
     ensures store_after { store.new ≡ lent decision_size answer.old store.old (decide_exit store.old) }
     ensures answer_after { answer.new ≡ lent decision_size answer.old answer.old (put answer.old 0 (decision_words (decide_answer store.old priority_1 (quality_of class accuracy variance) priority_2 listening))) }
 {

@@ -3,14 +3,14 @@
 // is cut and answered is said by the crate log_piece.
 #![tactic(auto)]
 
-ghost use Rattle.std.specs.Prelude.{◌-◌, ◌≤◌, length};
+ghost use Rattle.std.specs.Prelude.{◌-◌, ◌≤◌, length, IfSome};
 ghost use Rattle.log_answer.specs.Answer.{Known};
 ghost use Rattle.log_step.specs.Piece.{StepWithin, StepKnown};
 
 use book::STORE_WORDS;
 use log_answer::Setup;
-use log_step::{Rest, Step};
-use std::io::{Read, Stdin};
+use log_step::Step;
+use std::io::Stdin;
 
 // Standard output, as the calls that write name it.
 const STDOUT_FILENO: i32 = 1;
@@ -18,21 +18,13 @@ const STDOUT_FILENO: i32 = 1;
 // Standard error.
 const STDERR_FILENO: i32 = 2;
 
-// Where the program stands: what is set up, how many bytes of the unfinished line are kept, how many of the output wait to be written,
-// and whether all writes were done.
+// Where the program stands: what is set up, how many bytes of the unfinished line are kept, and how many of the output wait to be
+// written.
 #[derive(Clone, Copy)]
 struct Place {
     setup: Setup,
     count: usize,
     used: usize,
-    written: bool,
-}
-
-// How many bytes of the output wait, and whether the write before them was done.
-#[derive(Clone, Copy)]
-struct Room {
-    used: usize,
-    written: bool,
 }
 
 // Writes what waits.
@@ -42,19 +34,18 @@ fn flush(out: &[u8], used: usize) -> bool
     io::write_all(STDOUT_FILENO, &out[..used])
 }
 
-// How many bytes wait once an answer fits after them: what waits is written where it might not, and the write may fail.
-fn make_room(out: &[u8], used: usize) -> Room
+// How many bytes wait once an answer fits after them: what waits is written where it might not; none where that write fails.
+fn make_room(out: &[u8], used: usize) -> Option<usize>
     requires { used ≤ length out.now }
-    ensures { result.used ≤ length out.now }
+    ensures { IfSome result (λ n. n ≤ length out.now) }
 {
     if out.len() - used >= log_answer::ANSWER_BYTES {
-        return Room {
-            used,
-            written: true,
-        };
+        return Some(used);
     }
-    let written = flush(out, used);
-    Room { used: 0, written }
+    if !flush(out, used) {
+        return None;
+    }
+    Some(0)
 }
 
 // Answers the next line of a piece after what waits in the output.
@@ -75,7 +66,7 @@ fn answer_after(
     log_piece::next_answer(store, setup, line, count, piece, at, &mut out[used..])
 }
 
-// Answers the lines that end among the first n bytes of a block.
+// Answers the lines that end among the first n bytes of a block; none where a write fails.
 fn answer_block(
     store: &mut [u64],
     block: &[u8],
@@ -83,9 +74,9 @@ fn answer_block(
     place: Place,
     line: &mut [u8],
     out: &mut [u8],
-) -> Place
+) -> Option<Place>
     requires { (n ≤ length block.now) × (place.used ≤ length out.old) × Known 0 place.setup store.old }
-    ensures { (result.used ≤ length out.old) × Known 0 result.setup store.new }
+    ensures { IfSome result (λ p. (p.used ≤ length out.old) × Known 0 p.setup store.new) }
 {
     let piece = &block[..n];
     let mut setup = place.setup;
@@ -93,16 +84,7 @@ fn answer_block(
     let mut used = place.used;
     let mut at = 0;
     loop {
-        let room = make_room(out, used);
-        let from = room.used;
-        if !room.written {
-            return Place {
-                setup,
-                count,
-                used: from,
-                written: false,
-            };
-        }
+        let from = make_room(out, used)?;
         match answer_after(store, setup, line, count, piece, at, out, from) {
             Step::Line { answered, next } => {
                 setup = answered.setup;
@@ -111,12 +93,11 @@ fn answer_block(
                 at = next;
             }
             Step::Taken { count: kept } => {
-                return Place {
+                return Some(Place {
                     setup,
                     count: kept,
                     used: from,
-                    written: true,
-                };
+                });
             }
         }
     }
@@ -133,66 +114,31 @@ fn finish(store: &mut [u64], place: Place, line: &[u8], out: &mut [u8]) -> bool
         return false;
     }
     match log_piece::last_answer(store, setup, line, count, out) {
-        Rest::Line(answered) => {
-            let n = answered.count;
-            flush(out, n)
-        }
-        Rest::Nothing => true,
+        Some(answered) => flush(out, answered.count),
+        None => true,
     }
 }
 
-// Reads a block: how many bytes came, 0 at the end of the input and where the read fails.
-fn read_block(mut stdin: Stdin, block: &mut [u8]) -> usize
-    ensures { result ≤ length block.old }
-{
-    match stdin.read(block) {
-        Ok(count) => count,
-        Err(_) => 0,
-    }
-}
-
-// Answers the input. A proved loop has to end, and nothing says that the input does: the turns are counted down from a number that no
-// run uses up. A write that fails ends it.
+// Answers the input. A proved loop has to end, and nothing says that the input does: the turns are counted, to a number that no run uses
+// up. A write that fails ends it.
 fn run(stdin: Stdin, store: &mut [u64], block: &mut [u8], line: &mut [u8], out: &mut [u8]) -> bool {
     let mut setup = Setup::none();
     let mut count = 0;
     let mut used = 0;
-    let mut turns = u64::MAX;
-    while turns > 0 {
-        let n = read_block(stdin, block);
+    for _ in 0..u64::MAX {
+        let n = input::read_block(stdin, block);
+        let place = Place { setup, count, used };
         if n == 0 {
-            return finish(
-                store,
-                Place {
-                    setup,
-                    count,
-                    used,
-                    written: true,
-                },
-                line,
-                out,
-            );
+            return finish(store, place, line, out);
         }
-        let place = answer_block(
-            store,
-            block,
-            n,
-            Place {
-                setup,
-                count,
-                used,
-                written: true,
-            },
-            line,
-            out,
-        );
-        if !place.written {
-            return false;
+        match answer_block(store, block, n, place, line, out) {
+            Some(next) => {
+                setup = next.setup;
+                count = next.count;
+                used = next.used;
+            }
+            None => return false,
         }
-        setup = place.setup;
-        count = place.count;
-        used = place.used;
-        turns -= 1;
     }
     false
 }

@@ -82,7 +82,7 @@ pub fn load_message(slot: &[u64], source: PortIdentity) -> ForeignAnnounceMessag
     let header = unpack_header(source, slot[1], counts, quality, origin, rest);
     let message = unpack_message(header, slot[0], counts, quality, origin, rest);
     ForeignAnnounceMessage {
-        message: message,
+        message,
         age: slot[2],
         receipt: slot[3],
     }

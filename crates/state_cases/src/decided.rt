@@ -2,7 +2,7 @@
 use announce::{AnnounceMessage, ClockQuality};
 use choice::BestAnnounceMessage;
 use compare::InternalDefaultDS;
-use decision::{BestMessage, RecommendedState};
+use decision::RecommendedState;
 use header::{Header, PortIdentity, PtpVersion};
 use vectors::frames;
 
@@ -30,24 +30,19 @@ pub fn own(class: u8) -> InternalDefaultDS {
 }
 
 fn same_own(a: InternalDefaultDS, b: InternalDefaultDS) -> bool {
-    let p = a.clock_quality;
-    let q = b.clock_quality;
-    (a.clock_identity == b.clock_identity)
-        & (p.clock_class == q.clock_class)
-        & (p.clock_accuracy == q.clock_accuracy)
-        & (p.offset_scaled_log_variance == q.offset_scaled_log_variance)
-        & (a.priority_1 == b.priority_1)
-        & (a.priority_2 == b.priority_2)
+    a.clock_identity == b.clock_identity
+        && a.clock_quality == b.clock_quality
+        && a.priority_1 == b.priority_1
+        && a.priority_2 == b.priority_2
 }
 
 // A message of a grandmaster.
 fn sent(priority: u8, grandmaster: u64, sender: u64, steps: u16, sequence: u16) -> AnnounceMessage {
-    let source = PortIdentity {
+    let mut h = frames::f_header(sequence);
+    h.source_port_identity = PortIdentity {
         clock_identity: sender,
         port_number: 2,
     };
-    let mut h = frames::f_header(sequence);
-    h.source_port_identity = source;
     let mut a = frames::f_content(h);
     a.grandmaster_priority_1 = priority;
     a.grandmaster_identity = grandmaster;
@@ -62,8 +57,8 @@ pub fn received(a: AnnounceMessage, age: u64, port: u16) -> BestAnnounceMessage 
     };
     BestAnnounceMessage {
         message: a,
-        age: age,
-        identity: identity,
+        age,
+        identity,
     }
 }
 
@@ -120,11 +115,13 @@ fn erbest(kind: u64) -> BestAnnounceMessage {
     }
 }
 
-fn offered(kind: u64, b: BestAnnounceMessage) -> BestMessage {
-    if kind == 0 {
-        return BestMessage::Nothing;
-    }
-    BestMessage::Found(b)
+// Whether a class is among the first 127, but 0.
+fn is_low(class: u8) -> bool {
+    (1..=127).contains(&class)
+}
+
+fn offered(kind: u64, b: BestAnnounceMessage) -> Option<BestAnnounceMessage> {
+    if kind == 0 { None } else { Some(b) }
 }
 
 // Whether a state has this digit, and rests on our own data, on Ebest or on Erbest as the paper says.
@@ -137,14 +134,14 @@ pub fn is(
 ) -> bool {
     let right = match state {
         RecommendedState::Stay => digit == b'0',
-        RecommendedState::M1(d) => (digit == b'1') & same_own(d, own),
-        RecommendedState::M2(d) => (digit == b'2') & same_own(d, own),
-        RecommendedState::M3(a) => (digit == b'3') & same::same_message(a, ebest),
-        RecommendedState::P1(a) => (digit == b'4') & same::same_message(a, erbest),
-        RecommendedState::P2(a) => (digit == b'5') & same::same_message(a, erbest),
-        RecommendedState::S1(a) => (digit == b'6') & same::same_message(a, ebest),
+        RecommendedState::M1(d) => digit == b'1' && same_own(d, own),
+        RecommendedState::M2(d) => digit == b'2' && same_own(d, own),
+        RecommendedState::M3(a) => digit == b'3' && a == ebest,
+        RecommendedState::P1(a) => digit == b'4' && a == erbest,
+        RecommendedState::P2(a) => digit == b'5' && a == erbest,
+        RecommendedState::S1(a) => digit == b'6' && a == ebest,
     };
-    right & (state.number() == digit % 16)
+    right && state.number() == digit % 16
 }
 
 // For no Ebest, a better, an equal and a worse one, and each of these as Erbest; the grandmasters differ.
@@ -157,16 +154,13 @@ const LOW: [u8; 16] = *b"1411141114111411";
 const LOW_LISTENING: [u8; 16] = *b"0411041104110411";
 
 fn digit(class: u8, listening: bool, i: usize) -> u8 {
-    let low = (class == 1) | (class == 127);
-    let j = i % 16;
-    if low {
-        return if listening { LOW_LISTENING[j] } else { LOW[j] };
-    }
-    if listening {
-        HIGH_LISTENING[j]
-    } else {
-        HIGH[j]
-    }
+    let digits = match (is_low(class), listening) {
+        (true, true) => LOW_LISTENING,
+        (true, false) => LOW,
+        (false, true) => HIGH_LISTENING,
+        (false, false) => HIGH,
+    };
+    digits[i % 16]
 }
 
 fn by_kind(n: u64) -> bool {
@@ -183,20 +177,13 @@ fn by_kind(n: u64) -> bool {
         offered(there, r),
         listening,
     );
-    let best = e.message;
-    let ours = r.message;
-    is(
-        state,
-        digit(class, listening, (n % 16) as usize),
-        d,
-        best,
-        ours,
-    )
+    let want = digit(class, listening, (n % 16) as usize);
+    is(state, want, d, e.message, r.message)
 }
 
 // 1 where a change is this one.
 fn at(change: u64, n: u64) -> u8 {
-    if change == n { 1 } else { 0 }
+    u8::from(change == n)
 }
 
 // Changes 0 to 11 are the flags.
@@ -264,7 +251,7 @@ fn changed(change: u64) -> BestAnnounceMessage {
     BestAnnounceMessage {
         message: changed_quality(content, change),
         age: 500 + at(change, 29) as u64,
-        identity: identity,
+        identity,
     }
 }
 
@@ -285,25 +272,22 @@ fn by_change(n: u64) -> bool {
     let class = CLASSES[(n / 80 % 5) as usize];
     let listening = n / 40 % 2 == 1;
     let change = n % 40;
-    let low = (class == 1) | (class == 127);
-    let want = if low { b'4' } else { CHANGES[change as usize] };
+    let want = if is_low(class) {
+        b'4'
+    } else {
+        CHANGES[change as usize]
+    };
     let d = own(class);
     let e = changed(39);
     let r = changed(change);
-    let state = decision::calculate_recommended_state(
-        d,
-        BestMessage::Found(e),
-        BestMessage::Found(r),
-        listening,
-    );
-    let best = e.message;
-    let ours = r.message;
-    is(state, want, d, best, ours)
+    let state = decision::calculate_recommended_state(d, Some(e), Some(r), listening);
+    is(state, want, d, e.message, r.message)
 }
 
 pub fn one(n: u64) -> bool {
     if n < KINDS {
-        return by_kind(n);
+        by_kind(n)
+    } else {
+        by_change(n - KINDS)
     }
-    by_change(n - KINDS)
 }

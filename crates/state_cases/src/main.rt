@@ -4,25 +4,17 @@
 mod decided;
 mod ports;
 
-use vectors::tally::Tally;
+use vectors::tally;
 
 // The decisions for one port and then those for all eight: whether the case of a number is right.
 fn right(n: u64) -> bool {
     if n < decided::CASES {
-        return decided::one(n);
+        decided::one(n)
+    } else {
+        ports::all(n - decided::CASES)
     }
-    ports::all(n - decided::CASES)
-}
-
-// Runs the cases from 0 on, and writes their line.
-fn run(name: &[u8], cases: u64) {
-    let mut t = Tally { cases: 0, wrong: 0 };
-    for n in 0..cases {
-        t = t.with(right(n));
-    }
-    t.report(name);
 }
 
 fn main() {
-    run(b"states", decided::CASES + ports::CASES);
+    tally::run(b"states", decided::CASES + ports::CASES, right);
 }

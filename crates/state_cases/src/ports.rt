@@ -3,7 +3,6 @@ use crate::decided;
 use announce::AnnounceMessage;
 use choice::BestAnnounceMessage;
 use compare::InternalDefaultDS;
-use decision::BestMessage;
 use states::PortAnswer;
 
 pub const CASES: u64 = 28;
@@ -22,94 +21,81 @@ fn held(letter: u8, port: u16) -> BestAnnounceMessage {
 }
 
 fn message(letter: u8, port: u16) -> AnnounceMessage {
-    let b = held(letter, port);
-    b.message
+    held(letter, port).message
 }
 
-fn offered(letter: u8, port: u16) -> BestMessage {
+fn offered(letter: u8, port: u16) -> Option<BestAnnounceMessage> {
     if letter == b'.' {
-        return BestMessage::Nothing;
+        None
+    } else {
+        Some(held(letter, port))
     }
-    BestMessage::Found(held(letter, port))
 }
 
 // A row each: the letters of the ports, the digits of their answers, our class, the byte of those that listen, and the port whose
 // message is Ebest, or 0.
-const ROWS: [u8; 532] = *b"\
-    ........22222222\xF8\x00\x00\
-    ........00000000\xF8\xFF\x00\
-    ........11111111\x06\x00\x00\
-    ........01111110\x7F\x81\x00\
-    ........00002222\x80\x0F\x00\
-    .E.EGw..36353333\xF8\x00\x02\
-    .E.EGw..06053300\xF8\xFF\x02\
-    .E.EGw..06353333\xF8\x01\x02\
-    .E.EGw..36353330\xF8\x80\x02\
-    .E.EGw..36053303\xF8\x44\x02\
-    .E.EGw..36353300\xF8\xC0\x02\
-    .E.EGw..36353333\xF8\x12\x02\
-    .E.EGw..14144111\x06\x00\x02\
-    .E.EGw..04044100\x7F\xFF\x02\
-    .E.EGw..04044101\x01\x45\x02\
-    .E.EGw..36353333\x00\x00\x02\
-    ..e..e..33633633\xFF\x00\x06\
-    ..e..o..33633333\xF8\x00\x03\
-    ..o..e..33333633\xF8\x00\x06\
-    ..e..f..33333633\xF8\x00\x06\
-    ..f..e..33333633\xF8\x00\x06\
-    EEEEEEEE65555555\xF8\xFF\x01\
-    wwwwwwww22222222\xF8\xFF\x01\
-    .......E00000006\xF8\x7F\x08\
-    E.......60000000\xF8\xFE\x01\
-    wwwwGwww33336333\x80\x00\x05\
-    .......E11111114\x7F\x00\x08\
-    G...E...33336333\xF8\x00\x05";
+const ROWS: [[u8; 19]; 28] = [
+    *b"........22222222\xF8\x00\x00",
+    *b"........00000000\xF8\xFF\x00",
+    *b"........11111111\x06\x00\x00",
+    *b"........01111110\x7F\x81\x00",
+    *b"........00002222\x80\x0F\x00",
+    *b".E.EGw..36353333\xF8\x00\x02",
+    *b".E.EGw..06053300\xF8\xFF\x02",
+    *b".E.EGw..06353333\xF8\x01\x02",
+    *b".E.EGw..36353330\xF8\x80\x02",
+    *b".E.EGw..36053303\xF8\x44\x02",
+    *b".E.EGw..36353300\xF8\xC0\x02",
+    *b".E.EGw..36353333\xF8\x12\x02",
+    *b".E.EGw..14144111\x06\x00\x02",
+    *b".E.EGw..04044100\x7F\xFF\x02",
+    *b".E.EGw..04044101\x01\x45\x02",
+    *b".E.EGw..36353333\x00\x00\x02",
+    *b"..e..e..33633633\xFF\x00\x06",
+    *b"..e..o..33633333\xF8\x00\x03",
+    *b"..o..e..33333633\xF8\x00\x06",
+    *b"..e..f..33333633\xF8\x00\x06",
+    *b"..f..e..33333633\xF8\x00\x06",
+    *b"EEEEEEEE65555555\xF8\xFF\x01",
+    *b"wwwwwwww22222222\xF8\xFF\x01",
+    *b".......E00000006\xF8\x7F\x08",
+    *b"E.......60000000\xF8\xFE\x01",
+    *b"wwwwGwww33336333\x80\x00\x05",
+    *b".......E11111114\x7F\x00\x08",
+    *b"G...E...33336333\xF8\x00\x05",
+];
 
-fn cell(row: u64, i: u64) -> u8 {
-    ROWS[(row % 28 * 19 + i % 19) as usize]
+// What the ports of a row hold.
+fn erbests(row: &[u8; 19]) -> [Option<BestAnnounceMessage>; 8] {
+    std::array::from_fn(|i| offered(row[i], i as u16 + 1))
 }
 
-fn erbests(row: u64) -> [BestMessage; 8] {
-    let mut list = [BestMessage::Nothing; 8];
-    for i in 0..8 {
-        list[i] = offered(cell(row, i as u64), i as u16 + 1);
+fn ebest(row: &[u8; 19]) -> AnnounceMessage {
+    let port = row[18];
+    if 1 <= port && port <= 8 {
+        message(row[port as usize - 1], port as u16)
+    } else {
+        message(b'E', 0)
     }
-    list
 }
 
-fn ebest(row: u64) -> AnnounceMessage {
-    let port = cell(row, 18) % 9;
-    if port == 0 {
-        return message(b'E', 0);
-    }
-    message(cell(row, port as u64 - 1), port as u16)
-}
-
-// Whether the answer at a place, counted from 0, is that of its port, with the digit of the row.
+// Whether an answer is that of a port, with the digit and the letter of the row.
 fn is(
     answer: PortAnswer,
-    row: u64,
-    i: u64,
+    port: u16,
+    letter: u8,
+    digit: u8,
     own: InternalDefaultDS,
     ebest: AnnounceMessage,
 ) -> bool {
-    let port = (i % 8) as u16 + 1;
-    let state = answer.state;
-    let erbest = message(cell(row, i % 8), port);
-    (answer.port_number == port) & decided::is(state, cell(row, 8 + i % 8), own, ebest, erbest)
-}
-
-fn are(answers: [PortAnswer; 8], row: u64, own: InternalDefaultDS, ebest: AnnounceMessage) -> bool {
-    for i in 0..8 {
-        if !is(answers[i], row, i as u64, own, ebest) {
-            return false;
-        }
-    }
-    true
+    answer.port_number == port
+        && decided::is(answer.state, digit, own, ebest, message(letter, port))
 }
 
 pub fn all(n: u64) -> bool {
-    let own = decided::own(cell(n, 16));
-    let answers = states::recommended_states(own, erbests(n), cell(n, 17));
-    are(answers, n, own, ebest(n))
+    let row = &ROWS[(n % 28) as usize];
+    let own = decided::own(row[16]);
+    let ebest = ebest(row);
+    let answers = states::recommended_states(own, erbests(row), row[17]);
+    (0..8).all(|i| is(answers[i], i as u16 + 1, row[i], row[8 + i], own, ebest))
 }

@@ -1,12 +1,12 @@
 -- Demand 3 of the state decision: to which port S1 is recommended, with or without the agreement.
 -- Assumes nothing.
-use Rattle.std.specs.Prelude.{◌≡◌, Bool, not, ◌&&◌, ℕ, suc, ◌≤◌, ◌<◌, ◌+◌, eqb, length}
+use Rattle.std.specs.Prelude.{◌≡◌, Bool, not, ◌&&◌, ℕ, suc, ◌≤◌, ◌<◌, ◌+◌, eqb, length, Option, Some, None, is_none}
 use Rattle.std.proofs.Math.Path.{refl, sym, ap}
 use Rattle.std.proofs.Common.{ap₂, subst, ◌∙◌, arith}
 use Rattle.std.proofs.Math.Bool.{true, false, cond}
 use mathlib.Core.List.Memᴰ
 use mathlib.Core.List.{List, [], ◌∷◌, Memᴰ}
-use Rattle.std.proofs.Math.Option.{Option, none, some, none-ne-some, some-injective}
+use Rattle.std.proofs.lemmas.Option.{none-some, same_Some}
 use Rattle.std.proofs.Math.Decide.{ℕ_discrete}
 use borrow.Author.Tests.{eq-eqb, ne_eqb}
 use Rattle.compare.specs.declared.InternalDefaultDS.{InternalDefaultDS}
@@ -18,40 +18,40 @@ use Rattle.decision.specs.declared.RecommendedState.{RecommendedState}
 use Rattle.decision.specs.State.{low, state_of}
 use Rattle.decision.proofs.Reasons.{own_below, Reason, stay, m1_alone, m1_ahead, p1_below, m2_alone, m2_ahead, m3_alone, s1_same, p2_near, m3_far, state_reason}
 use Rattle.states.specs.Ports.{ebest_of, answers_from, answers_of, decision_of}
-use Rattle.states.specs.Slave.{is_s1, recommends_s1, slave_port, is_port, flags_from, ones, Ported, Owned, flags, Received, is_none, is_empty}
+use Rattle.states.specs.Slave.{is_s1, recommends_s1, slave_port, is_port, flags_from, ones, Ported, Owned, flags, Received, is_empty}
 
 -- One port, number n: what it received bears that number, and if the winner bears it, it is this port's Erbest.
 module _ (own : InternalDefaultDS) (l : Bool) (n : ℕ) where
   abbrev Own : Option BestAnnounceMessage → Option BestAnnounceMessage → Type 0
-  Own g p = AllOf (λ v. v.identity.port_number ≡ n) p × AllOf (λ w. w.identity.port_number ≡ n → p ≡ some w) g
+  Own g p = AllOf (λ v. v.identity.port_number ≡ n) p × AllOf (λ w. w.identity.port_number ≡ n → p ≡ Some w) g
 
   -- not here: the winner was received elsewhere, or S1 is not recommended at all
-  elsewhere : (w : BestAnnounceMessage) → (w.identity.port_number ≡ n → ⊥) → is_port n (slave_port own (some w)) ≡ false
+  elsewhere : (w : BestAnnounceMessage) → (w.identity.port_number ≡ n → ⊥) → is_port n (slave_port own (Some w)) ≡ false
   unfolding slave_port
-  elsewhere w d = go (recommends_s1 own (some w))
+  elsewhere w d = go (recommends_s1 own (Some w))
     where
-      go : (t : Bool) → is_port n (cond t (some w.identity.port_number) none) ≡ false
+      go : (t : Bool) → is_port n (cond t (Some w.identity.port_number) None) ≡ false
       go true = ne_eqb w.identity.port_number n d
       go false = refl
 
   nowhere : (g : Option BestAnnounceMessage) → recommends_s1 own g ≡ false → is_port n (slave_port own g) ≡ false
   unfolding slave_port
-  nowhere none e = refl
-  nowhere (some w) e = rw e
+  nowhere None e = refl
+  nowhere (Some w) e = rw e
 
   low-nowhere : (g : Option BestAnnounceMessage) → low own ≡ true → is_port n (slave_port own g) ≡ false
   unfolding recommends_s1
-  low-nowhere none e = nowhere none refl
-  low-nowhere (some w) e = nowhere (some w) (rw e)
+  low-nowhere None e = nowhere None refl
+  low-nowhere (Some w) e = nowhere (Some w) (rw e)
 
-  here : (w : BestAnnounceMessage) → low own ≡ false → own_below own w ≡ true → w.identity.port_number ≡ n → is_port n (slave_port own (some w)) ≡ true
+  here : (w : BestAnnounceMessage) → low own ≡ false → own_below own w ≡ true → w.identity.port_number ≡ n → is_port n (slave_port own (Some w)) ≡ true
   unfolding slave_port recommends_s1
   here w e f r = rw (e, f) (eq-eqb w.identity.port_number n r)
 
-  none_here : (g : Option BestAnnounceMessage) → Own g none → is_port n (slave_port own g) ≡ false
+  none_here : (g : Option BestAnnounceMessage) → Own g None → is_port n (slave_port own g) ≡ false
   unfolding recommends_s1
-  none_here none o = nowhere none refl
-  none_here (some w) o = elsewhere w (λ e. none-ne-some w (o.1 e))
+  none_here None o = nowhere None refl
+  none_here (Some w) o = elsewhere w (λ e. none-some w (o.1 e))
 
   reason_s1 : (g p : Option BestAnnounceMessage) (s : RecommendedState) → Own g p → Reason own l g p s → is_s1 s ≡ is_port n (slave_port own g)
   unfolding recommends_s1
@@ -59,12 +59,12 @@ module _ (own : InternalDefaultDS) (l : Bool) (n : ℕ) where
   reason_s1 g p s o (m1_alone e h) = sym (low-nowhere g h)
   reason_s1 g p s o (m1_ahead h k) = sym (low-nowhere g h)
   reason_s1 g p s o (p1_below h k) = sym (low-nowhere g h)
-  reason_s1 g p s o (m2_alone e h) = sym (nowhere none refl)
-  reason_s1 g p s o (m2_ahead {g = w} e h k) = sym (nowhere (some w) (rw (h, k)))
-  reason_s1 g p s o (m3_alone {g = w} e h k) = sym (none_here (some w) o)
+  reason_s1 g p s o (m2_alone e h) = sym (nowhere None refl)
+  reason_s1 g p s o (m2_ahead {g = w} e h k) = sym (nowhere (Some w) (rw (h, k)))
+  reason_s1 g p s o (m3_alone {g = w} e h k) = sym (none_here (Some w) o)
   reason_s1 g p s o (s1_same {g = w} {p = v} h k e) = sym (here w h k (ap (λ (b : BestAnnounceMessage). b.identity.port_number) e ∙ o.0))
-  reason_s1 g p s o (p2_near {g = w} {p = v} h k d t) = sym (elsewhere w (λ e. d (sym (some-injective v w (o.1 e)))))
-  reason_s1 g p s o (m3_far {g = w} {p = v} h k d t) = sym (elsewhere w (λ e. d (sym (some-injective v w (o.1 e)))))
+  reason_s1 g p s o (p2_near {g = w} {p = v} h k d t) = sym (elsewhere w (λ e. d (sym (same_Some v w (o.1 e)))))
+  reason_s1 g p s o (m3_far {g = w} {p = v} h k d t) = sym (elsewhere w (λ e. d (sym (same_Some v w (o.1 e)))))
 
   port_s1 : (g p : Option BestAnnounceMessage) → Own g p → is_s1 (state_of own g p l) ≡ is_port n (slave_port own g)
   port_s1 g p o = reason_s1 g p (state_of own g p l) o (state_reason own l g p)
@@ -72,9 +72,9 @@ module _ (own : InternalDefaultDS) (l : Bool) (n : ℕ) where
 module _ (w : BestAnnounceMessage) where
   within : (k : ℕ) (os : List (Option BestAnnounceMessage)) → Ported k os → Memᴰ w (present os) → (k ≤ w.identity.port_number) × (w.identity.port_number < k + length os)
   within k [] r m = absurd (Memᴰ.not-nil m)
-  within k (none ∷ os) r m = let h = within (suc k) os r.1 m in (omega arith, omega arith)
-  within k (some v ∷ os) r (Memᴰ.head e) = let h : w.identity.port_number ≡ k = ap (λ (b : BestAnnounceMessage). b.identity.port_number) e ∙ r.0 in (omega arith, omega arith)
-  within k (some v ∷ os) r (Memᴰ.tail m) = let h = within (suc k) os r.1 m in (omega arith, omega arith)
+  within k (None ∷ os) r m = let h = within (suc k) os r.1 m in (omega arith, omega arith)
+  within k (Some v ∷ os) r (Memᴰ.head e) = let h : w.identity.port_number ≡ k = ap (λ (b : BestAnnounceMessage). b.identity.port_number) e ∙ r.0 in (omega arith, omega arith)
+  within k (Some v ∷ os) r (Memᴰ.tail m) = let h = within (suc k) os r.1 m in (omega arith, omega arith)
 
   owned-past : (k : ℕ) (os : List (Option BestAnnounceMessage)) → w.identity.port_number < k → Owned w k os
   owned-past k [] h = tt
@@ -82,13 +82,13 @@ module _ (w : BestAnnounceMessage) where
 
   owned : (k : ℕ) (os : List (Option BestAnnounceMessage)) → Ported k os → Memᴰ w (present os) → Owned w k os
   owned k [] r m = tt
-  owned k (none ∷ os) r m = let h = within (suc k) os r.1 m in (λ e. absurd (omega arith), owned (suc k) os r.1 m)
-  owned k (some v ∷ os) r (Memᴰ.head e) = (λ h. ap some (sym e), owned-past (suc k) os (subst (λ (b : BestAnnounceMessage). b.identity.port_number < suc k) (sym e) (omega (arith, r.0))))
-  owned k (some v ∷ os) r (Memᴰ.tail m) = let h = within (suc k) os r.1 m in (λ e. absurd (omega arith), owned (suc k) os r.1 m)
+  owned k (None ∷ os) r m = let h = within (suc k) os r.1 m in (λ e. absurd (omega arith), owned (suc k) os r.1 m)
+  owned k (Some v ∷ os) r (Memᴰ.head e) = (λ h. ap Some (sym e), owned-past (suc k) os (subst (λ (b : BestAnnounceMessage). b.identity.port_number < suc k) (sym e) (omega (arith, r.0))))
+  owned k (Some v ∷ os) r (Memᴰ.tail m) = let h = within (suc k) os r.1 m in (λ e. absurd (omega arith), owned (suc k) os r.1 m)
 
 all_of : {A : Type 0} (P Q : A → Type 0) → ((a : A) → P a → Q a) → (o : Option A) → AllOf P o → AllOf Q o
-all_of P Q f none p = tt
-all_of P Q f (some a) p = f a p
+all_of P Q f None p = tt
+all_of P Q f (Some a) p = f a p
 
 answers_s1 :
     (own : InternalDefaultDS) (listening : ℕ) (g : Option BestAnnounceMessage) (k : ℕ) (os : List (Option BestAnnounceMessage)) → Ported (suc k) os → AllOf (λ w. Owned w (suc k) os) g
@@ -96,7 +96,7 @@ answers_s1 :
 unfolding answers_from flags_from
 answers_s1 own listening g k [] r o = refl
 answers_s1 own listening g k (p ∷ ps) r o =
-    ap₂ ◌∷◌ (port_s1 own _ (suc k) g p (r.0, all_of (λ w. Owned w (suc k) (p ∷ ps)) (λ w. w.identity.port_number ≡ suc k → p ≡ some w) (λ w q. q.0) g o))
+    ap₂ ◌∷◌ (port_s1 own _ (suc k) g p (r.0, all_of (λ w. Owned w (suc k) (p ∷ ps)) (λ w. w.identity.port_number ≡ suc k → p ≡ Some w) (λ w q. q.0) g o))
     (answers_s1 own listening g (suc k) ps r.1 (all_of (λ w. Owned w (suc k) (p ∷ ps)) (λ w. Owned w (suc (suc k)) ps) (λ w q. q.1) g o))
 
 -- the winner is the Erbest of a port
@@ -105,22 +105,22 @@ unfolding ebest_of winner
 ebest-in os = choose_has (λ w. Memᴰ w (present os)) (stays_by whole) (present os) (all_in (present os) (λ w m. m))
 
 -- one flag is set if the port is among them, and none if not
-ones_none : {A : Type 0} (k : ℕ) (xs : List A) → ones (flags_from none k xs) ≡ 0
+ones_none : {A : Type 0} (k : ℕ) (xs : List A) → ones (flags_from None k xs) ≡ 0
 unfolding ones flags_from
 ones_none k [] = refl
 ones_none k (x ∷ xs) = ones_none (suc k) xs
 
-ones-past : {A : Type 0} (n k : ℕ) (xs : List A) → n < k → ones (flags_from (some n) k xs) ≡ 0
+ones-past : {A : Type 0} (n k : ℕ) (xs : List A) → n < k → ones (flags_from (Some n) k xs) ≡ 0
 unfolding ones flags_from
 ones-past n k [] h = refl
 ones-past n k (x ∷ xs) h = rw (ne_eqb n k (omega arith)) (ones-past n (suc k) xs (omega arith))
 
-ones-one : {A : Type 0} (n k : ℕ) (xs : List A) → k ≤ n → n < k + length xs → ones (flags_from (some n) k xs) ≡ 1
+ones-one : {A : Type 0} (n k : ℕ) (xs : List A) → k ≤ n → n < k + length xs → ones (flags_from (Some n) k xs) ≡ 1
 unfolding ones flags_from
 ones-one n k [] h h' = absurd (omega arith)
 ones-one n k (x ∷ xs) h h' = go (λ a. ones-one n (suc k) xs a (omega arith)) (ℕ_discrete n k)
   where
-    go : (suc k ≤ n → ones (flags_from (some n) (suc k) xs) ≡ 1) → Dec (n ≡ k) → ones (eqb n k ∷ flags_from (some n) (suc k) xs) ≡ 1
+    go : (suc k ≤ n → ones (flags_from (Some n) (suc k) xs) ≡ 1) → Dec (n ≡ k) → ones (eqb n k ∷ flags_from (Some n) (suc k) xs) ≡ 1
     go later (yes e) = rw (eq-eqb n k e, ones-past n (suc k) xs (omega arith))
     go later (no e) = rw (ne_eqb n k e) (later (omega arith))
 
@@ -134,13 +134,13 @@ module _ (own : InternalDefaultDS) (listening : ℕ) (os : List (Option BestAnno
   unfolding slave_port recommends_s1
   s1_count = ap ones s1_flags ∙ go (ebest_of os) (ebest-in os)
     where
-      reach : (w : BestAnnounceMessage) → Memᴰ w (present os) → (t : Bool) → ones (flags_from (cond t (some w.identity.port_number) none) 1 os) ≡ cond t 1 0
+      reach : (w : BestAnnounceMessage) → Memᴰ w (present os) → (t : Bool) → ones (flags_from (cond t (Some w.identity.port_number) None) 1 os) ≡ cond t 1 0
       reach w m true = let b = within w 1 os r m in ones-one w.identity.port_number 1 os b.0 b.1
       reach w m false = ones_none 1 os
 
       go : (g : Option BestAnnounceMessage) → AllOf (λ w. Memᴰ w (present os)) g → ones (flags_from (slave_port own g) 1 os) ≡ cond (recommends_s1 own g) 1 0
-      go none m = ones_none 1 os
-      go (some w) m = reach w m (not (low own) && own_below own w)
+      go None m = ones_none 1 os
+      go (Some w) m = reach w m (not (low own) && own_below own w)
 
 ported : (k : ℕ) (ports : List (List BestAnnounceMessage)) → Received k ports → Ported k (erbests whole ports)
 unfolding erbests winner

@@ -1,7 +1,6 @@
 -- The decision for all ports: Ebest among the Erbests, and an answer a port.
 -- Assumes nothing.
-use Rattle.std.specs.Prelude.{List, [], ◌∷◌, ℕ, suc}
-use Rattle.std.proofs.Math.Option.{Option, none, some}
+use Rattle.std.specs.Prelude.{List, [], ◌∷◌, ℕ, suc, Option, Some, None}
 use Rattle.wire.specs.Flags.{bit}
 use Rattle.compare.specs.declared.InternalDefaultDS.{InternalDefaultDS}
 use Rattle.choice.specs.declared.BestAnnounceMessage.{BestAnnounceMessage}
@@ -16,9 +15,9 @@ ebest_of os = winner whole (present os)
 
 -- one step of that choice: a port without an Erbest changes nothing
 abbrev pub keep_found : Option BestAnnounceMessage → Option BestAnnounceMessage → Option BestAnnounceMessage
-keep_found held none = held
-keep_found none (some b) = some b
-keep_found (some held) (some b) = some (keep (stays_by whole) held b)
+keep_found held None = held
+keep_found None (Some b) = Some b
+keep_found (Some held) (Some b) = Some (keep (stays_by whole) held b)
 
 -- all ports, the next one numbered k + 1: bit k of the byte is set if it listens
 unfoldable pub answers_from : InternalDefaultDS → Option BestAnnounceMessage → ℕ → ℕ → List (Option BestAnnounceMessage) → List PortAnswer

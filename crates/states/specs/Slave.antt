@@ -1,9 +1,8 @@
 -- Demand 3 of the state decision: to which port S1 is recommended, with or without the agreement.
 -- Assumes nothing.
-use Rattle.std.specs.Prelude.{◌≡◌, Bool, not, ◌&&◌, ℕ, suc, eqb}
+use Rattle.std.specs.Prelude.{◌≡◌, Bool, not, ◌&&◌, ℕ, suc, eqb, Option, Some, None}
 use Rattle.std.proofs.Math.Bool.{true, false, cond}
 use mathlib.Core.List.{List, [], ◌∷◌, map}
-use Rattle.std.proofs.Math.Option.{Option, none, some}
 use Rattle.compare.specs.declared.InternalDefaultDS.{InternalDefaultDS}
 use Rattle.choice.specs.declared.BestAnnounceMessage.{BestAnnounceMessage}
 use Rattle.choice.specs.Choice.{All, AllOf}
@@ -25,18 +24,18 @@ is_s1 (S1 m) = true
 -- The three conditions: our class lies outside 1 to 127, some port has a candidate (so there is a winner), and our own data ranks
 -- below the winner.
 unfoldable pub recommends_s1 : InternalDefaultDS → Option BestAnnounceMessage → Bool
-recommends_s1 own none = false
-recommends_s1 own (some w) = not (low own) && own_below own w
+recommends_s1 own None = false
+recommends_s1 own (Some w) = not (low own) && own_below own w
 
 -- To which port: the one that received the winner.
 unfoldable pub slave_port : InternalDefaultDS → Option BestAnnounceMessage → Option ℕ
-slave_port own none = none
-slave_port own (some w) = cond (recommends_s1 own (some w)) (some w.identity.port_number) none
+slave_port own None = None
+slave_port own (Some w) = cond (recommends_s1 own (Some w)) (Some w.identity.port_number) None
 
 -- one flag a port, the first numbered k: is it that port?
 abbrev pub is_port : ℕ → Option ℕ → Bool
-is_port k none = false
-is_port k (some n) = eqb n k
+is_port k None = false
+is_port k (Some n) = eqb n k
 
 unfoldable pub flags_from : {A : Type 0} → Option ℕ → ℕ → List A → List Bool
 flags_from s k [] = []
@@ -56,7 +55,7 @@ Ported k (o ∷ os) = AllOf (λ v. v.identity.port_number ≡ k) o × Ported (su
 -- w is the Erbest of the port that it names
 abbrev pub Owned : BestAnnounceMessage → ℕ → List (Option BestAnnounceMessage) → Type 0
 Owned w k [] = Unit
-Owned w k (o ∷ os) = (w.identity.port_number ≡ k → o ≡ some w) × Owned w (suc k) os
+Owned w k (o ∷ os) = (w.identity.port_number ≡ k → o ≡ Some w) × Owned w (suc k) os
 
 -- one flag a port: is it recommended S1?
 abbrev pub flags : List PortAnswer → List Bool
@@ -66,10 +65,6 @@ flags answers = map (λ (a : PortAnswer). is_s1 a.state) answers
 abbrev pub Received : ℕ → List (List BestAnnounceMessage) → Type 0
 Received k [] = Unit
 Received k (bs ∷ ports) = All (λ b. b.identity.port_number ≡ k) bs × Received (suc k) ports
-
-abbrev pub is_none : {A : Type 0} → Option A → Bool
-is_none none = true
-is_none (some x) = false
 
 abbrev pub is_empty : {A : Type 0} → List A → Bool
 is_empty [] = true

@@ -1,13 +1,12 @@
 // The decision for all ports by their best messages: Ebest, and a recommended state for each port.
 #![tactic(auto)]
 
-ghost use Rattle.std.specs.Prelude.{◌≡◌, map};
-ghost use Rattle.decision.specs.State.{option_of};
+ghost use Rattle.std.specs.Prelude.{◌≡◌};
 ghost use Rattle.states.specs.Ports.{keep_found, ebest_of, answers_of};
 
 use choice::BestAnnounceMessage;
 use compare::InternalDefaultDS;
-use decision::{BestMessage, RecommendedState};
+use decision::RecommendedState;
 
 // A port's answer.
 #[derive(Clone, Copy)]
@@ -17,34 +16,27 @@ pub struct PortAnswer {
 }
 
 // One step of the choice among the ports' best: a port without one changes nothing.
-fn keep(held: BestMessage, next: BestMessage) -> BestMessage
-    ensures { option_of result ≡ keep_found (option_of held) (option_of next) }
+fn keep(
+    held: Option<BestAnnounceMessage>,
+    next: Option<BestAnnounceMessage>,
+) -> Option<BestAnnounceMessage>
+    ensures { result ≡ keep_found held next }
 {
-    match next {
-        BestMessage::Nothing => held,
-        BestMessage::Found(b) => match held {
-            BestMessage::Nothing => next,
-            BestMessage::Found(h) => {
-                if h.candidate(0).stays(b.candidate(0)) {
-                    held
-                } else {
-                    next
-                }
-            }
-        },
+    match (held, next) {
+        (_, None) => held,
+        (Some(h), Some(b)) if h.candidate(0).stays(b.candidate(0)) => held,
+        _ => next,
     }
 }
 
 // Ebest: the choice among the Erbests, port 1 first.
-pub fn ebest(erbests: [BestMessage; 8]) -> BestMessage
-    ensures { option_of result ≡ ebest_of (map option_of erbests) }
+#[tactic(auto, unfolding(crate::proofs::Steps::keep_all))]
+pub fn ebest(erbests: [Option<BestAnnounceMessage>; 8]) -> Option<BestAnnounceMessage>
+    ensures { result ≡ ebest_of erbests }
 {
-    let mut held = BestMessage::Nothing;
-    let mut i = 0;
-    while i < 8 {
-        let next = erbests[i];
+    let mut held = None;
+    for next in erbests {
         held = keep(held, next);
-        i += 1;
     }
     held
 }
@@ -53,10 +45,10 @@ pub fn ebest(erbests: [BestMessage; 8]) -> BestMessage
 // fewer ports, the last places hold nothing and their answers mean nothing.
 pub fn recommended_states(
     own: InternalDefaultDS,
-    erbests: [BestMessage; 8],
+    erbests: [Option<BestAnnounceMessage>; 8],
     listening: u8,
 ) -> [PortAnswer; 8]
-    ensures { result ≡ answers_of own listening (map option_of erbests) }
+    ensures { result ≡ answers_of own listening erbests }
 {
     let global = ebest(erbests);
     let stay = PortAnswer {
@@ -64,17 +56,17 @@ pub fn recommended_states(
         state: RecommendedState::Stay,
     };
     let mut answers = [stay; 8];
-    let mut bits = listening;
-    let mut i = 0;
-    while i < 8 {
-        let port = erbests[i];
-        let state = decision::calculate_recommended_state(own, global, port, bits % 2 == 1);
+    for i in 0..8 {
+        let state = decision::calculate_recommended_state(
+            own,
+            global,
+            erbests[i],
+            (listening >> i) % 2 == 1,
+        );
         answers[i] = PortAnswer {
             port_number: i as u16 + 1,
             state: state,
         };
-        bits = bits / 2;
-        i += 1;
     }
     answers
 }

@@ -7,8 +7,8 @@ use Rattle.std.proofs.Math.Decide.{ℕ_discrete}
 use Rattle.header.specs.declared.PortIdentity.{PortIdentity}
 use Rattle.announce.specs.declared.AnnounceMessage.{AnnounceMessage}
 use Rattle.announce.specs.Wire.{announce_of, announce_with}
-use Rattle.order.specs.declared.Ordering.{Ordering}
-use Rattle.order.specs.declared.Ordering.TheVariants.{Less, Equal, Greater}
+use Rattle.std.specs.declared.cmp.Ordering.{Ordering}
+use Rattle.std.specs.declared.cmp.Ordering.TheVariants.{Less, Equal, Greater}
 use Rattle.order.specs.Order.{cmp, then_by, lex, flip, is_less, is_greater}
 use Rattle.order.specs.Rows.{Two, lt, eq, gt, two, cmp_less, cmp_greater, cmp_equal, lex-flip, stand, stand_equal, then_by_assoc}
 use Rattle.compare.specs.Dataset.{by_quality, quality_row, figure34, as_ordering}

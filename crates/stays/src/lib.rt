@@ -28,19 +28,7 @@ fn high_at(master: &[u64], k: usize) -> u64
 fn lower2(a: u64, b: u64, x: u64, y: u64) -> bool
     ensures { result ≡ is_less (lex (a ∷ b ∷ []) (x ∷ y ∷ [])) }
 {
-    if a < x {
-        return true;
-    }
-    if x < a {
-        return false;
-    }
-    if b < y {
-        return true;
-    }
-    if y < b {
-        return false;
-    }
-    false
+    a < x || (a == x && b < y)
 }
 
 // One grandmaster: the steps, then the sender, then the age.

@@ -1,6 +1,6 @@
 -- Where everything stands in the store, and the book that a store holds.
 -- Assumes nothing.
-use Rattle.std.specs.Prelude.{ℕ, ◌+◌, ◌*◌, ◌/◌, ◌%◌, ◌≤◌, ◌<◌, ◌≡◌, refl, List, eqb, get_or}
+use Rattle.std.specs.Prelude.{ℕ, ◌+◌, ◌*◌, ◌/◌, ◌%◌, ◌≤◌, ◌<◌, ◌≡◌, refl, List, eqb, get_or, length}
 use Rattle.std.proofs.Common.{arith, ap, ◌∙◌}
 use Rattle.header.specs.declared.PortIdentity.{PortIdentity}
 use Rattle.slot.specs.Blocks.{block, get_or-block}
@@ -8,7 +8,7 @@ use Rattle.slot.specs.Slot.{decode, aged}
 use Rattle.slot.specs.Slot as slot
 use Rattle.slot.specs.declared.ForeignAnnounceMessage.{ForeignAnnounceMessage}
 use Rattle.history.specs.Port.{Reads, Master, Port, Site, sequence, steps}
-use Rattle.history.specs.Rules.{listed_max}
+use Rattle.history.specs.Rules.{listed_max, masters_max}
 use Rattle.history.specs.Book.{Book}
 use Rattle.history.specs.Sound.{Lawful}
 use Rattle.store.specs.Below.{tab, tab-ext}
@@ -39,6 +39,14 @@ port_at q = head_words + q * port_words
 -- the slot of message k of a ring that starts at `start`
 abbrev pub slot_at : ℕ → ℕ → ℕ
 slot_at start k = 4 + (start + k) % 8 * 8
+
+-- a head with as many words as it has, whose list has room
+abbrev pub WholeHead : List ℕ → Type 0
+WholeHead h = (length h ≡ head_words) × (get_or h 3 0 ≤ listed_max)
+
+-- a port with as many words as it has, and no more masters than it may hold
+abbrev pub WholePort : List ℕ → Type 0
+WholePort p = (length p ≡ port_words) × (get_or p 1 0 ≤ masters_max)
 
 -- ---- the book of a store: `book_of` reads the words, whatever they are
 

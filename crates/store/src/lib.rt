@@ -1,11 +1,9 @@
 // The store that all ports share: its layout, three fields of a message, and the searches for a clock and a master.
 #![tactic(auto)]
 
-ghost use Rattle.std.specs.Prelude.{◌≡◌, ◌<◌, ◌≤◌, ◌+◌, length, get_or, eqb};
-ghost use Rattle.history.specs.Rules.{masters_max, listed_max};
+ghost use Rattle.std.specs.Prelude.{◌≡◌, ◌<◌, ◌≤◌, ◌+◌, length};
 ghost use Rattle.history.specs.Port.{sequence, steps};
-ghost use Rattle.store.specs.Below.{first};
-ghost use Rattle.store.specs.Layout.{master_words, port_words, head_words, identity, slot_at, message_at, reads};
+ghost use Rattle.store.specs.Layout.{master_words, identity, slot_at, message_at, reads, WholeHead, WholePort};
 ghost use Rattle.store.specs.Search.{named, place, accepts_head};
 
 // How many ports and masters there is room for; history::MASTERS is how many masters a port may hold.
@@ -63,52 +61,28 @@ pub fn steps_at(master: &[u64], k: usize) -> u64
     master[at + 4] / 65536 % 65536
 }
 
-// The place of a clock in the list of acceptable masters, or the list's length.
-fn find_clock(head: &[u64], clock: u64) -> usize
-    requires { (length head.now ≡ head_words) × (get_or head.now 3 0 ≤ listed_max) }
-    ensures { result ≡ first (get_or head.now 3 0) (λ i. eqb (get_or head.now (4 + i) 0) clock) }
-{
-    let count = head[3] as usize;
-    let mut i = 0;
-    let found = loop {
-        if count <= i {
-            break count;
-        }
-        if head[4 + i] == clock {
-            break i;
-        }
-        i += 1;
-    };
-    found
-}
-
+// Whether the head accepts a clock: any, or one of its list.
 pub fn acceptable(head: &[u64], clock: u64) -> bool
-    requires { (length head.now ≡ head_words) × (get_or head.now 3 0 ≤ listed_max) }
+    requires { WholeHead head.now }
     ensures { result ≡ accepts_head head.now clock }
 {
-    if head[2] == 0 {
-        return true;
-    }
     let count = head[3] as usize;
-    find_clock(head, clock) < count
+    head[2] == 0 || head[4..4 + count].contains(&clock)
 }
 
 fn is_master(master: &[u64], clock: u64, number: u64) -> bool
     requires { length master.now ≡ master_words }
     ensures { result ≡ named (identity clock number) master.now }
 {
-    if master[0] == clock {
-        master[1] % 65536 == number
-    } else {
-        false
-    }
+    master[0] == clock && master[1] % 65536 == number
 }
 
 // The place of the first master with this identity, or the count of masters.
 pub fn find_master(port: &[u64], clock: u64, number: u64) -> usize
-    requires { (length port.now ≡ port_words) × (get_or port.now 1 0 ≤ masters_max) }
+    requires { WholePort port.now }
     ensures { result ≡ place port.now (identity clock number) }
 {
+    // A loop with `break`: paper 01 fixes this form of find_master.
     let count = port[1] as usize;
     let mut i = 0;
     let found = loop {

@@ -1,6 +1,7 @@
 -- What the real calls report of a port is what the turns of that port alone tell.
 -- Assumes nothing.
-use Rattle.std.specs.Prelude.{ℕ, zero, suc, ◌+◌, ◌≡◌, ltb, eqb, get_or}
+use Rattle.std.specs.Prelude.{ℕ, zero, suc, ◌+◌, ◌≡◌, ltb, eqb, get_or, None}
+use Rattle.std.specs.Prelude as rust
 use Rattle.std.proofs.Math.Path.{refl, sym, ap}
 use Rattle.std.proofs.Common.{ap₂, ◌∙◌, eqb-true}
 use Rattle.std.proofs.Math.Bool.{Bool, cond}
@@ -42,18 +43,18 @@ unfolding book_of
 port-words t i P e = nth_of (get_or t 0 0) (λ q. port_of (block t (port_at q) port_words)) i P e
 
 -- a registration has no Erbest
-hearing-best : (S : Site) (k : ℕ) (g : Frame ForeignAnnounceMessage) (P : Port ForeignAnnounceMessage) → (hearing reads S k g P).best ≡ none
+hearing-best : (S : Site) (k : ℕ) (g : Frame ForeignAnnounceMessage) (P : Port ForeignAnnounceMessage) → (hearing reads S k g P).best ≡ None
 unfolding register_port
 hearing-best S k (bad n) P = refl
 hearing-best S k (announce m) P =
-    by (λ b. (cond b (taking reads m P) (unchanged (refusal reads S k m P) P)).best ≡ none) (eqb (refusal reads S k m P) 0) (λ t. refl) (λ t. refl)
+    by (λ b. (cond b (taking reads m P) (unchanged (refusal reads S k m P) P)).best ≡ None) (eqb (refusal reads S k m P) 0) (λ t. refl) (λ t. refl)
 
 -- a turn as a report
 abbrev pub told : Option (Turn ForeignAnnounceMessage) → Report
-told none = record { answer = 0; erbest = none }
+told none = record { answer = 0; erbest = None }
 told (some T) = record { answer = T.answer; erbest = T.best }
 
-report_eq : {n m : ℕ} {a b : Option BestAnnounceMessage} → n ≡ m → a ≡ b → ◌≡◌ {A = Report} (record { answer = n; erbest = a }) (record { answer = m; erbest = b })
+report_eq : {n m : ℕ} {a b : rust.Option BestAnnounceMessage} → n ≡ m → a ≡ b → ◌≡◌ {A = Report} (record { answer = n; erbest = a }) (record { answer = m; erbest = b })
 report_eq p q = λ i. record { answer = p i; erbest = q i }
 
 map-noted : {X Y : Type 0} (f : X → Y) (c : PortCall ForeignAnnounceMessage) (x : X) (xs : List X) → map f (noted c x xs) ≡ noted c (f x) (map f xs)
@@ -120,10 +121,10 @@ module _ (s : List ℕ) (checks : store_refusal s ≡ 0) (i : ℕ) (P : Port For
       ∙ ap (λ (r : Report). noted (share_of (1 + i) (step_age step)) r rs) (sym (told_is (age step)))
   report_turn (decide p₁ quality p₂ listening) rs =
       let c = decide_call B p₁ quality p₂ listening in
-      let best : Turn ForeignAnnounceMessage → Option BestAnnounceMessage = λ T. T.best in
+      let best : Turn ForeignAnnounceMessage → rust.Option BestAnnounceMessage = λ T. T.best in
       let erbest : erbest_at s i ≡ (at c).best =
       nth_of (get_or s 0 0) (erbest_at s) i (at c).best
-      (ap (λ (l : List (Option BestAnnounceMessage)). get_elem? l i) (erbests_view s (checked s checks).room (checked s checks).sound (own_in B p₁ quality p₂) listening)
+      (ap (λ (l : List (rust.Option BestAnnounceMessage)). get_elem? l i) (erbests_view s (checked s checks).room (checked s checks).sound (own_in B p₁ quality p₂) listening)
       ∙ nth-map best (turns reads c B) i ∙ ap (Option.map best) (turn_alone reads i c B P there)) in
       ap (λ (r : Report). r ∷ rs) (report_eq (call-answer s checks (decide p₁ quality p₂ listening)).number erbest ∙ sym (told_is c))
 

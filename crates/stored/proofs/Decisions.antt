@@ -2,16 +2,18 @@
 -- most, a port's state reads its own Erbest and bit, Ebest and own data, and bits above the count of ports are ignored.
 -- Assumes nothing.
 use Prim.Native.Nat.{ℕ, zero, suc, ◌+◌, ◌-◌, ◌/◌, ◌%◌, ◌^◌, ◌≤◌, ◌<◌}
-use Rattle.std.specs.Prelude.{◌≡◌, refl, Bool, cond, eqb}
+use Rattle.std.specs.Prelude.{◌≡◌, refl, Bool, cond, eqb, Option, Result, Ok}
 use Rattle.std.proofs.Common.{sym, ap₂, ◌∙◌, arith, not-suc-le-zero}
 use Rattle.std.proofs.Math.Path.{ap}
 use mathlib.Core.List.{List, [], ◌∷◌, ◌++◌, map}
-use Rattle.std.proofs.Math.Option
-use Rattle.std.proofs.Math.Option.{Option, some, some-injective}
+use Rattle.std.proofs.Math.Option as option
+use Rattle.std.proofs.Math.Option.{some, some-injective}
 use Rattle.std.proofs.Math.ListN.{length, drop, get_or, get_elem?, length-map}
 use Rattle.std.proofs.Math.Pow.{field, mod-mod-pow}
 use Rattle.wire.specs.Flags.{bit}
 use Rattle.wire.specs.Refusal.{on_zero}
+use Rattle.refused.specs.declared.Refusal.{Refusal}
+use Rattle.refused.specs.Refusal.{refused}
 use Rattle.announce.specs.declared.ClockQuality.{ClockQuality}
 use Rattle.compare.specs.declared.InternalDefaultDS.{InternalDefaultDS}
 use Rattle.choice.specs.declared.BestAnnounceMessage.{BestAnnounceMessage}
@@ -33,7 +35,7 @@ use Rattle.book.specs.Rules.{store_refusal}
 use Rattle.book.proofs.Rules.{checked}
 use Rattle.foreign_master.specs.Calls.{tallies_of}
 use Rattle.bmca.specs.declared.Decision.{Decision}
-use Rattle.bmca.specs.Decide.{blanks, decision_by, refused_with, own_in, decide_call, decide_of, decide_answer, erbest_at}
+use Rattle.bmca.specs.Decide.{blanks, decision_by, own_in, decide_call, decide_of, decide_answer, erbest_at}
 use Rattle.bmca.proofs.View.{decide-turns, erbests_view}
 use Rattle.stored.specs.Calls.{answers_in}
 use Rattle.stored.specs.Calls as stored
@@ -85,7 +87,7 @@ module _ (s : List ℕ) (checks : store_refusal s ≡ 0) (p₁ : ℕ) (quality :
       ap (λ (l : List (Turn ForeignAnnounceMessage)). get_elem? l i) (decide-turns s (checked s checks).room (checked s checks).sound own listening) ∙ nth-tab (get_or s 0 0) _ i h in
       let erbest : erbest_at s i ≡ T.best =
       some-injective (erbest_at s i) T.best
-      (sym (nth-tab (get_or s 0 0) (erbest_at s) i h) ∙ ap (λ (l : List (Option BestAnnounceMessage)). get_elem? l i) bests_are ∙ nth-map best Ts i ∙ ap (Option.map best) there) in
+      (sym (nth-tab (get_or s 0 0) (erbest_at s) i h) ∙ ap (λ (l : List (Option BestAnnounceMessage)). get_elem? l i) bests_are ∙ nth-map best Ts i ∙ ap (option.map best) there) in
       ap (λ (l : List PortAnswer). get_elem? l i) answers-turns
       ∙ state-alone own listening Ts T i there
       ∙ ap₂ (λ (os : List (Option BestAnnounceMessage)) (o : Option BestAnnounceMessage). some (record { port_number = suc i; state = state_of own (ebest_of os) o (bit listening i) }))
@@ -131,7 +133,7 @@ module _ (s : List ℕ) (p₁ : ℕ) (quality : ClockQuality) (p₂ listening : 
       let os = map (λ (T : Turn ForeignAnnounceMessage). T.best) (Us listening) in
       let count : length os ≡ n = length-map (Us listening) _ ∙ length-turns B.site own listening 1 B.ports ∙ length-tab n _ in
       let same : Us (listening % 2 ^ n) ≡ Us listening = turns-cut B.site own (listening % 2 ^ n) listening 1 B.ports in
-      ap (λ (d : Decision). on_zero (store_refusal s) d refused_with)
+      ap (λ (d : Decision). on_zero {A = Result Decision Refusal} (store_refusal s) (Ok d) refused)
       (ap (decision_by own (listening % 2 ^ n)) same
-      ∙ ap (λ (answers : List PortAnswer). record { number = 0; ports = length (Us listening); answers = answers ++ drop (length (Us listening)) blanks; tallies = tallies_of (Us listening) })
+      ∙ ap (λ (answers : List PortAnswer). record { ports = length (Us listening); answers = answers ++ drop (length (Us listening)) blanks; tallies = tallies_of (Us listening) })
       (answers-cut own (ebest_of os) listening n 0 os (omega (arith, count))))

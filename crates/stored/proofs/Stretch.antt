@@ -1,11 +1,10 @@
 -- A stretch of real calls in which no fresh start is taken is a stretch of calls on the book: with the same numbers, tallies and parts
 -- of each port.
 -- Assumes nothing.
-use Rattle.std.specs.Prelude.{ℕ, ◌+◌, ◌≡◌, refl, Bool, false, cond, List, [], ◌∷◌, eqb}
+use Rattle.std.specs.Prelude.{ℕ, ◌+◌, ◌≡◌, refl, Bool, false, cond, List, [], ◌∷◌, eqb, Result, Ok, Err}
 use Rattle.std.proofs.Common.{sym, ap, ap₂, ◌∙◌, arith, ne_eqb}
 use Rattle.choice.specs.Choice.{All}
-use Rattle.frame.specs.declared.FrameRead.{FrameRead}
-use Rattle.frame.specs.declared.FrameRead.TheVariants as read
+use Rattle.frame.specs.declared.Message.{Message}
 use Rattle.frame.specs.Frame.{read_frame}
 use Rattle.slot.specs.declared.ForeignAnnounceMessage.{ForeignAnnounceMessage}
 use Rattle.history.specs.Port.{Site, Turn, PortCall, bad, idle}
@@ -20,7 +19,9 @@ use Rattle.book.specs.Layout.{book_of, reads}
 use Rattle.book.specs.Rules.{store_refusal}
 use Rattle.foreign_master.specs.declared.Tallies.{Tallies}
 use Rattle.foreign_master.specs.Calls.{frame_of}
-use Rattle.foreign_master.proofs.Steps.{refused-some}
+use Rattle.refused.specs.declared.Refusal.{Refusal}
+use Rattle.refused.specs.Refusal.{number_of}
+use Rattle.refused.proofs.Laws.{number-positive}
 use Rattle.foreign_master.proofs.Laws.{bad-number}
 use Rattle.stored.specs.Calls.{StoreCall, fresh_start, register_frame, step_age, decide, Wired, exit_of, accepting, Going, event_at, share_of, run_store, Lasting, tallied, accepted_in, mine_of, follow, calls_of}
 use Rattle.stored.proofs.Views.{number_at, tallies_at, call_view, call-answer}
@@ -73,13 +74,14 @@ mine-follow k (call c) cs = refl
 -- ---- one call
 
 -- so a registration that answers 0 is of an announce
-accepting_frame : (B : Book ForeignAnnounceMessage) (q : ℕ) (r : FrameRead) → ((n : ℕ) → r ≡ read.Refused n → n ≡ 0 → ⊥)
+accepting_frame : (B : Book ForeignAnnounceMessage) (q : ℕ) (r : Result Message Refusal)
     → let c = register q (frame_of r) in
     cond (eqb (number c (turns reads c B)) 0) 1 0 ≡ balance.accepting c (number c (turns reads c B))
 unfolding number turns
-accepting_frame B q (read.Done m) h = refl
-accepting_frame B q (read.Refused n) h =
-    ap (λ (b : Bool). cond b 1 0) (ne_eqb (answer_from 1 q (turns_from reads B.site 1 (register q (bad n)) B.ports)) 0 (λ e. h n refl (bad-number B.site n 1 q B.ports e)))
+accepting_frame B q (Ok m) = refl
+accepting_frame B q (Err r) =
+    let n = number_of r in
+    ap (λ (b : Bool). cond b 1 0) (ne_eqb (answer_from 1 q (turns_from reads B.site 1 (register q (bad n)) B.ports)) 0 (λ e. omega (arith, number-positive r, bad-number B.site n 1 q B.ports e)))
 
 -- a call is to a port what its event is
 pub share-same : (k : ℕ) (s : List ℕ) (c : StoreCall) → share_at k (event_at s c) ≡ share_of k c
@@ -103,7 +105,7 @@ module _ (s : List ℕ) (checks : store_refusal s ≡ 0) where
   accepting-same (fresh_start own any listed intervals) = refl
   accepting-same (register_frame port frame) =
       ap (λ (n : ℕ). cond (eqb n 0) 1 0) (call-answer s checks (register_frame port frame)).number
-      ∙ accepting_frame (book_of s) port (read_frame frame) (refused-some frame)
+      ∙ accepting_frame (book_of s) port (read_frame frame)
   accepting-same (step_age step) = refl
   accepting-same (decide p₁ quality p₂ listening) = refl
 

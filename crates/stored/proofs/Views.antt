@@ -1,9 +1,8 @@
 -- A real call, and any history of them, does to the words of a store what the same calls do to the book that it holds.
 -- Assumes nothing.
-use Rattle.std.specs.Prelude.{ℕ, zero, suc, ◌+◌, ◌≤◌, ◌<◌, ◌≡◌, Bool, true, false, cond, List, [], ◌∷◌, map, ltb, eqb, drop}
+use Rattle.std.specs.Prelude.{ℕ, zero, suc, ◌+◌, ◌≤◌, ◌<◌, ◌≡◌, Bool, true, false, cond, List, [], ◌∷◌, map, ltb, eqb, drop, Option, Result, Ok, Err}
 use Rattle.std.proofs.Math.Path.{refl, ap}
 use Rattle.std.proofs.Common.{sym, ◌∙◌, arith, eqb-true, ne_eqb, take_at}
-use Rattle.std.proofs.Math.Option.{Option}
 use Rattle.std.proofs.Math.ListN.{length}
 use Rattle.std.proofs.lemmas.List.{length-map}
 use Rattle.wire.specs.Refusal.{on_zero, on-done}
@@ -28,16 +27,18 @@ use Rattle.fresh.specs.Fresh.{site_with}
 use Rattle.frame.specs.Frame.{read_frame}
 use Rattle.ageing.specs.Age.{aged_store}
 use Rattle.foreign_master.specs.declared.Tallies.{Tallies}
-use Rattle.foreign_master.specs.declared.Answer.{Answer}
-use Rattle.foreign_master.specs.declared.Answer.TheVariants.{Done, Refused}
-use Rattle.foreign_master.specs.Calls.{answer_of, tallies_of, answer_to, answer_in, exit_in, register_call, taken_in, frame_of}
+use Rattle.refused.specs.declared.Refusal.{Refusal}
+use Rattle.refused.specs.Refusal.{refused, answer_of}
+use Rattle.refused.proofs.Laws.{number-of}
+use Rattle.foreign_master.specs.Calls.{tallies_of, answer_to, answer_in, exit_in, register_call, taken_in, frame_of}
 use Rattle.foreign_master.proofs.Steps.{settings_refused, tallies-eq}
 use Rattle.foreign_master.proofs.Steps as steps
 use Rattle.foreign_master.proofs.Laws.{After, aged, registered, Started, started, start-refused, refused-exit}
+use Rattle.foreign_master.proofs.Numbers.{register-le, age-le}
 use Rattle.bmca.specs.declared.Decision.{Decision}
-use Rattle.bmca.specs.Decide.{blanks, decision_by, refused_with, own_in, decide_call, decide_of, decide_answer}
+use Rattle.bmca.specs.Decide.{blanks, decision_by, own_in, decide_call, decide_of, decide_answer}
 use Rattle.bmca.proofs.Laws as bmca
-use Rattle.stored.specs.Calls.{StoreCall, fresh_start, register_frame, step_age, decide, Wired, exit_of, number_of, no_tallies, tallies_in, tallies_to, event_at, run_store, events_of, answers_in, answers_to}
+use Rattle.stored.specs.Calls.{StoreCall, fresh_start, register_frame, step_age, decide, Wired, exit_of, number_of, no_tallies, tallies_in, consumed_in, tallies_to, event_at, run_store, events_of, answers_in, answers_to}
 
 -- ---- what a call on a book answers
 
@@ -119,26 +120,26 @@ module _ (s : List ℕ) (c : Call ForeignAnnounceMessage) where
   refused-work : (work : List ℕ) → ((answer_of (answer_in s c)).0 ≡ 0 → ⊥) → exit_in s c work ≡ s
   refused-work work h = told (answer_in s c) refl h
     where
-      told : (a : Answer) → answer_in s c ≡ a → ((answer_of a).0 ≡ 0 → ⊥) → exit_in s c work ≡ s
-      told (Done t) e n = absurd (n refl)
-      told (Refused m) e n = refused-exit s c work m e
+      told : (a : Result Tallies Refusal) → answer_in s c ≡ a → ((answer_of a).0 ≡ 0 → ⊥) → exit_in s c work ≡ s
+      told (Ok t) e n = absurd (n refl)
+      told (Err r) e n = refused-exit s c work r e
 
   module _ (checks : store_refusal s ≡ 0) where
-    answer-is : answer_in s c ≡ on_zero k (Done t) Refused
+    answer-is : answer_in s c ≡ on_zero k (Ok t) refused
     unfolding answer_in answer_to
-    answer-is = on-done (store_refusal s) (on_zero k (Done t) Refused) Refused checks
+    answer-is = on-done (store_refusal s) (on_zero k (Ok t) refused) refused checks
 
-    answer-number : (answer_of (answer_in s c)).0 ≡ k
-    answer-number = ap (λ (a : Answer). (answer_of a).0) answer-is ∙ pick k
+    answer-number : k ≤ 17 → (answer_of (answer_in s c)).0 ≡ k
+    answer-number h = ap (λ (a : Result Tallies Refusal). (answer_of a).0) answer-is ∙ pick k h
       where
-        pick : (n : ℕ) → (answer_of (on_zero n (Done t) Refused)).0 ≡ n
-        pick zero = refl
-        pick (suc n) = refl
+        pick : (n : ℕ) → n ≤ 17 → (answer_of (on_zero n (Ok t) refused)).0 ≡ n
+        pick zero h = refl
+        pick (suc n) h = number-of n (omega (arith, h))
 
-    answer-tallies : tallies_in (answer_of (answer_in s c)).1 ≡ t
-    answer-tallies = ap (λ (a : Answer). tallies_in (answer_of a).1) answer-is ∙ pick k refl
+    answer-tallies : tallies_in (answer_in s c) ≡ t
+    answer-tallies = ap tallies_in answer-is ∙ pick k refl
       where
-        pick : (n : ℕ) → k ≡ n → tallies_in (answer_of (on_zero n (Done t) Refused)).1 ≡ t
+        pick : (n : ℕ) → k ≡ n → tallies_in (on_zero n (Ok t) refused) ≡ t
         pick zero e = refl
         pick (suc n) e = sym (none_named c (book_of s) (λ z. omega (arith, e, z)))
 
@@ -151,7 +152,7 @@ length-answers own g listening k [] = refl
 length-answers own g listening k (o ∷ os) = ap suc (length-answers own g listening (suc k) os)
 
 -- the blank answers past the ports are none of theirs
-answers-first : (own : InternalDefaultDS) (listening : ℕ) (Ts : List (Turn ForeignAnnounceMessage)) → answers_in (decision_by own listening Ts) ≡ states_of own listening Ts
+answers-first : (own : InternalDefaultDS) (listening : ℕ) (Ts : List (Turn ForeignAnnounceMessage)) → answers_in (Ok (decision_by own listening Ts)) ≡ states_of own listening Ts
 answers-first own listening Ts =
     let best : Turn ForeignAnnounceMessage → Option BestAnnounceMessage = λ T. T.best in
     take_at (states_of own listening Ts) (drop (length Ts) blanks) (length Ts) (length-answers own (ebest_of (map best Ts)) listening 0 (map best Ts) ∙ length-map Ts best)
@@ -163,7 +164,11 @@ pub refused-words : (c : StoreCall) (s : List ℕ) → (number_of c s ≡ 0 → 
 refused-words (fresh_start own any listed intervals) s h = start-refused s (site_with own any listed) intervals h
 refused-words (register_frame port frame) s h = refused-work s (register_call port frame) (taken_in s port (frame_of (read_frame frame))) h
 refused-words (step_age step) s h = refused-work s (age step) (aged_store step s) h
-refused-words (decide p₁ quality p₂ listening) s h = bmca.refused-exit s p₁ quality p₂ listening h
+refused-words (decide p₁ quality p₂ listening) s h = told (decide_answer s p₁ quality p₂ listening) refl h
+  where
+    told : (a : Result Decision Refusal) → decide_answer s p₁ quality p₂ listening ≡ a → ((answer_of a).0 ≡ 0 → ⊥) → exit_of (decide p₁ quality p₂ listening) s ≡ s
+    told (Ok d) e n = absurd (n refl)
+    told (Err r) e n = bmca.refused-exit s p₁ quality p₂ listening r e
 
 -- what a call on a store has done: the length stays, the book is the one after the same call on the book, and it is sound
 pub record Seen (s : List ℕ) (c : StoreCall) : Type 0 where
@@ -220,13 +225,13 @@ module _ (s : List ℕ) (checks : store_refusal s ≡ 0) where
   unfolding number decide_answer decide_of
   call-answer (fresh_start own any listed intervals) = (start_view own any listed intervals).1
   call-answer (register_frame port frame) =
-      record { number = answer-number s (register_call port frame) checks; tallies = answer-tallies s (register_call port frame) checks; states = refl }
-  call-answer (step_age step) = record { number = answer-number s (age step) checks; tallies = answer-tallies s (age step) checks; states = refl }
+      record { number = answer-number s (register_call port frame) checks (register-le s port frame); tallies = answer-tallies s (register_call port frame) checks; states = refl }
+  call-answer (step_age step) = record { number = answer-number s (age step) checks (age-le s step); tallies = answer-tallies s (age step) checks; states = refl }
   call-answer (decide p₁ quality p₂ listening) =
-      let done = on-done (store_refusal s) (decide_of (book_of s) p₁ quality p₂ listening) refused_with checks in
+      let done = on-done (store_refusal s) (Ok (decide_of (book_of s) p₁ quality p₂ listening)) refused checks in
       record {
-        number = ap (λ (d : Decision). d.number) done;
-        tallies = ap (λ (d : Decision). d.tallies) done;
+        number = ap (λ (a : Result Decision Refusal). (answer_of a).0) done;
+        tallies = ap consumed_in done;
         states = ap answers_in done ∙ answers-first (own_in (book_of s) p₁ quality p₂) listening (turns reads (decide_call (book_of s) p₁ quality p₂ listening) (book_of s));
       }
 

@@ -1,8 +1,9 @@
 -- The real calls on a lent store, each by its contract, and histories of them.
 -- Assumes nothing.
-use Rattle.std.specs.Prelude.{ℕ, ◌+◌, ◌≡◌, Bool, cond, List, [], ◌∷◌, eqb, take}
-use Rattle.std.proofs.Math.Option.{Option, none, some}
+use Rattle.std.specs.Prelude.{ℕ, ◌+◌, ◌≡◌, Bool, cond, List, [], ◌∷◌, eqb, take, Option, None, Result, Ok, Err}
 use Rattle.wire.specs.Be.{Bytes}
+use Rattle.refused.specs.declared.Refusal.{Refusal}
+use Rattle.refused.specs.Refusal.{answer_of}
 use Rattle.announce.specs.declared.ClockQuality.{ClockQuality}
 use Rattle.choice.specs.declared.BestAnnounceMessage.{BestAnnounceMessage}
 use Rattle.choice.specs.Choice.{All}
@@ -14,7 +15,7 @@ use Rattle.histories.specs.History.{Event, start, call, noted}
 use Rattle.book.specs.Layout.{book_of}
 use Rattle.fresh.specs.Fresh.{site_with}
 use Rattle.foreign_master.specs.declared.Tallies.{Tallies}
-use Rattle.foreign_master.specs.Calls.{answer_of, fresh_answer, fresh_exit, register_call, register_answer, register_exit, age_answer, age_exit}
+use Rattle.foreign_master.specs.Calls.{fresh_answer, fresh_exit, register_call, register_answer, register_exit, age_answer, age_exit}
 use Rattle.bmca.specs.declared.Decision.{Decision}
 use Rattle.bmca.specs.Decide.{decide_call, decide_answer, decide_exit, erbest_at}
 
@@ -46,27 +47,32 @@ abbrev pub number_of : StoreCall → List ℕ → ℕ
 number_of (fresh_start own any listed intervals) s = fresh_answer s (site_with own any listed) intervals
 number_of (register_frame port frame) s = (answer_of (register_answer s port frame)).0
 number_of (step_age step) s = (answer_of (age_answer s step)).0
-number_of (decide p₁ quality p₂ listening) s = (decide_answer s p₁ quality p₂ listening).number
+number_of (decide p₁ quality p₂ listening) s = (answer_of (decide_answer s p₁ quality p₂ listening)).0
 
 -- the tallies of a call that reports none
 abbrev pub no_tallies : Tallies
 no_tallies = record { evicted = 0; aged_out = 0; consumed = 0 }
 
 -- the tallies that an answer holds
-abbrev pub tallies_in : Option Tallies → Tallies
-tallies_in none = no_tallies
-tallies_in (some t) = t
+abbrev pub tallies_in : Result Tallies Refusal → Tallies
+tallies_in (Ok t) = t
+tallies_in (Err e) = no_tallies
+
+-- the tallies and the answers of the ports that there are, of a decision
+abbrev pub consumed_in : Result Decision Refusal → Tallies
+consumed_in (Ok d) = d.tallies
+consumed_in (Err e) = no_tallies
+
+abbrev pub answers_in : Result Decision Refusal → List PortAnswer
+answers_in (Ok d) = take d.ports d.answers
+answers_in (Err e) = []
 
 -- the tallies of the answer: none for a refusal and for a fresh start
 abbrev pub tallies_to : StoreCall → List ℕ → Tallies
 tallies_to (fresh_start own any listed intervals) s = no_tallies
-tallies_to (register_frame port frame) s = tallies_in (answer_of (register_answer s port frame)).1
-tallies_to (step_age step) s = tallies_in (answer_of (age_answer s step)).1
-tallies_to (decide p₁ quality p₂ listening) s = (decide_answer s p₁ quality p₂ listening).tallies
-
--- the answers of the ports that there are
-abbrev pub answers_in : Decision → List PortAnswer
-answers_in d = take d.ports d.answers
+tallies_to (register_frame port frame) s = tallies_in (register_answer s port frame)
+tallies_to (step_age step) s = tallies_in (age_answer s step)
+tallies_to (decide p₁ quality p₂ listening) s = consumed_in (decide_answer s p₁ quality p₂ listening)
 
 -- the states that the call recommends, port 1 first
 abbrev pub answers_to : StoreCall → List ℕ → List PortAnswer
@@ -110,9 +116,9 @@ pub record Report : Type 0 where
 
 -- the Erbest that a call finds for port 1 + i
 abbrev pub erbest_in : ℕ → StoreCall → List ℕ → Option BestAnnounceMessage
-erbest_in i (fresh_start own any listed intervals) s = none
-erbest_in i (register_frame port frame) s = none
-erbest_in i (step_age step) s = none
+erbest_in i (fresh_start own any listed intervals) s = None
+erbest_in i (register_frame port frame) s = None
+erbest_in i (step_age step) s = None
 erbest_in i (decide p₁ quality p₂ listening) s = erbest_at s i
 
 -- the two together

@@ -3,7 +3,7 @@
 use Prim.Native.Nat.{ℕ, zero, suc, ◌+◌, ◌-◌, ◌%◌, ◌≤◌, ◌<◌}
 use Rattle.std.proofs.Math.Path.{◌≡◌, refl, sym, ap}
 use Rattle.std.proofs.Common.{◌∙◌, append_assoc, append-nil, add-zero, arith, length-append, length-drop, length-take-le, take_at, le-leb, eq-eqb, ne_eqb, leb-true, leb-false}
-use Rattle.std.specs.Prelude.{Bool, true, false, List, [], ◌∷◌, ◌++◌, take, drop, leb}
+use Rattle.std.specs.Prelude.{Bool, true, false, List, [], ◌∷◌, ◌++◌, take, drop, leb, Result, Ok, Err}
 use Rattle.std.proofs.Math.Bool.{cond}
 use Rattle.std.proofs.Math.Option.{none, some}
 use Rattle.std.proofs.Math.ListN.{length}
@@ -11,13 +11,14 @@ use borrow.Rule.Slice.PartMut.{put_mid, mid_of, put_same}
 use Rattle.std.proofs.lemmas.Bool.{lt-leb}
 use Rattle.wire.specs.Be.{bytes_of, put}
 use Rattle.wire.proofs.BeLaws.{length-bytes_of, put-put, put-part}
-use Rattle.wire.specs.Refusal.{on_zero, on-done, on-refused, on_both}
+use Rattle.wire.specs.Refusal.{on_zero, on-done, on-refused}
 use Rattle.wire.specs.Write.{write_number, done, kept}
 use Rattle.tlv_builder.specs.declared.TlvSetBuilder.{TlvSetBuilder}
-use Rattle.tlv_builder.specs.declared.Added.{Added}
-use Rattle.tlv_builder.specs.declared.Added.TheVariants.{Done, Refused}
+use Rattle.refused.specs.declared.Refusal.{Refusal}
+use Rattle.refused.specs.Refusal.{number_of, refused, answer_of}
+use Rattle.refused.proofs.Laws.{number-positive, refused-number, answer-number}
 use Rattle.tlv.specs.Tlv.{Tlv}
-use Rattle.tlv_builder.specs.Builder.{entry_bytes, entry_fits, entry_answer, entry_exit, add_answer, add_exit, add_read, answer_of, list_bytes}
+use Rattle.tlv_builder.specs.Builder.{entry_bytes, entry_fits, entry_answer, entry_exit, add_answer, add_exit, add_read, list_bytes}
 
 -- ---- what fits
 
@@ -87,32 +88,37 @@ module _ (b v : List ℕ) (t used r : ℕ) (le : r ≤ length b) (same : length 
 
 -- what the builder answers, by its number
 module _ (b v : List ℕ) (used : ℕ) where
-  abbrev after : Added
-  after = Done (record { used = used + (length v + 4) })
+  abbrev after : Result TlvSetBuilder Refusal
+  after = Ok (record { used = used + (length v + 4) })
 
   pub read_done : add_answer b used v ≡ 0 → after ≡ add_read b used v
   unfolding add_read
-  read_done e = sym (on-done (add_answer b used v) after Refused e)
+  read_done e = sym (on-done (add_answer b used v) after refused e)
 
-  pub read-refused : (n : ℕ) → add_answer b used v ≡ n → (n ≡ 0 → ⊥) → Refused n ≡ add_read b used v
+  pub read-refused : (e : Refusal) → add_answer b used v ≡ number_of e → Err e ≡ add_read b used v
   unfolding add_read
-  read-refused n e h = rw e (sym (on-refused n after Refused h))
+  read-refused e h = refused-number e ∙ rw h (sym (on-refused (number_of e) after refused (λ z. omega (arith, number-positive e))))
 
   -- a builder that took an entry is within the buffer
-  pub added_within : (then : TlvSetBuilder) → add_read b used v ≡ Done then → then.used ≤ length b
+  pub added_within : (then : TlvSetBuilder) → add_read b used v ≡ Ok then → then.used ≤ length b
   unfolding add_read
   added_within then e = by (add_answer b used v) refl e
     where
-      by : (n : ℕ) → add_answer b used v ≡ n → on_zero n after Refused ≡ Done then → then.used ≤ length b
+      by : (n : ℕ) → add_answer b used v ≡ n → on_zero n after refused ≡ Ok then → then.used ≤ length b
       by zero z e =
           let same : (record { used = used + (length v + 4) }) ≡ then = cc in
           omega (arith, ap (λ (x : TlvSetBuilder). x.used) same, (done _ _ b b z).room)
       by (suc n) z e = absurd (let f : ◌≡◌ {A = ℕ} 0 1 = cc in omega arith)
 
   -- in the paper's numbers
-  pub add-answer : answer_of (add_read b used v) ≡ on_zero (add_answer b used v) (0, some (used + (length v + 4))) (λ n. (n, none))
-  unfolding add_read
-  add-answer = on_both answer_of (add_answer b used v) after Refused
+  pub add-answer : answer_of (add_read b used v) ≡ on_zero (add_answer b used v) (0, some (record { used = used + (length v + 4) })) (λ n. (n, none))
+  unfolding add_read write_number
+  add-answer = answer-number (add_answer b used v) (record { used = used + (length v + 4) }) (by (entry_fits (length v)) (leb (used + (length v + 4)) (length b)))
+    where
+      by : (x y : Bool) → cond x (cond y 0 1) 15 ≤ 17
+      by true true = omega arith
+      by true false = omega arith
+      by false y = omega arith
 
 -- ---- a list that grows
 

@@ -1,13 +1,13 @@
 -- The bytes of an entry, and what a builder answers and writes.
 -- Assumes nothing.
-use Rattle.std.specs.Prelude.{ℕ, ◌+◌, ◌%◌, List, [], ◌∷◌, ◌++◌, Bool, false, cond, length, leb, eqb}
-use Rattle.std.proofs.Math.Option.{Option, none, some}
+use Rattle.std.specs.Prelude.{ℕ, ◌+◌, ◌%◌, List, [], ◌∷◌, ◌++◌, Bool, false, cond, length, leb, eqb, Result, Ok}
 use Rattle.wire.specs.Be.{bytes_of, put}
 use Rattle.wire.specs.Refusal.{on_zero}
 use Rattle.wire.specs.Write.{write_number, write_buffer}
 use Rattle.tlv.specs.Tlv.{Tlv}
-use Rattle.tlv_builder.specs.declared.Added.{Added}
-use Rattle.tlv_builder.specs.declared.Added.TheVariants.{Done, Refused}
+use Rattle.refused.specs.declared.Refusal.{Refusal}
+use Rattle.refused.specs.Refusal.{refused}
+use Rattle.tlv_builder.specs.declared.TlvSetBuilder.{TlvSetBuilder}
 
 -- u16 type, u16 length, value
 unfoldable pub entry_bytes : ℕ → List ℕ → List ℕ
@@ -37,10 +37,5 @@ abbrev pub add_exit : List ℕ → ℕ → ℕ → List ℕ → List ℕ
 add_exit s used t v = write_buffer (entry_fits (length v)) (used + (length v + 4)) s (put s used (entry_bytes t v))
 
 -- the builder afterwards, or the refusal
-unfoldable pub add_read : List ℕ → ℕ → List ℕ → Added
-add_read s used v = on_zero (add_answer s used v) (Done (record { used = used + (length v + 4) })) Refused
-
--- in the paper's numbers: 0 with the bytes used afterwards, or the refusal's number alone
-abbrev pub answer_of : Added → ℕ × Option ℕ
-answer_of (Done b) = (0, some b.used)
-answer_of (Refused n) = (n, none)
+unfoldable pub add_read : List ℕ → ℕ → List ℕ → Result TlvSetBuilder Refusal
+add_read s used v = on_zero (add_answer s used v) (Ok (record { used = used + (length v + 4) })) refused

@@ -1,9 +1,9 @@
 // Cases of the kind of a number.
 use tlv_type::TlvType;
 
-// The number of a kind that has a name, and 65,536 and more for another.
-fn number_of(kind: TlvType) -> u64 {
-    match kind {
+// The number of a kind, and whether it has a name.
+fn number_of(kind: TlvType) -> (u16, bool) {
+    let number = match kind {
         TlvType::Management => 1,
         TlvType::ManagementErrorStatus => 2,
         TlvType::OrganizationExtension => 3,
@@ -25,39 +25,35 @@ fn number_of(kind: TlvType) -> u64 {
         TlvType::CumulativeRateRatio => 0x8007,
         TlvType::Pad => 0x8008,
         TlvType::Authentication => 0x8009,
-        TlvType::Other(value) => 65536 + value as u64,
-    }
+        TlvType::Other(value) => return (value, false),
+    };
+    (number, true)
 }
 
 // Whether a number has a name.
-fn named(n: u64) -> bool {
-    ((1 <= n) & (n <= 9)) | ((0x4000 <= n) & (n <= 0x4001)) | ((0x8000 <= n) & (n <= 0x8009))
+fn named(n: u16) -> bool {
+    matches!(n, 1..=9 | 0x4000..=0x4001 | 0x8000..=0x8009)
 }
 
 // Whether an entry of a number is passed on.
-fn passed_on(n: u64) -> bool {
-    (n == 8) | (n == 9) | ((0x4000 <= n) & (n <= 0x7FFF))
-}
-
-// Whether a number is of this kind, and is passed on or not.
-fn told(number: u16, kind: u64, passed: bool) -> bool {
-    let k = TlvType::from_primitive(number);
-    (number_of(k) == kind) & (k.to_primitive() == number) & (k.announce_propagate() == passed)
+fn passed_on(n: u16) -> bool {
+    matches!(n, 8..=9 | 0x4000..=0x7FFF)
 }
 
 // Every number.
 pub fn number(n: u64) -> bool {
-    let value = n % 65536;
-    let kind = if named(value) { value } else { 65536 + value };
-    told(value as u16, kind, passed_on(value))
+    let number = (n % 65536) as u16;
+    let kind = TlvType::from(number);
+    number_of(kind) == (number, named(number))
+        && u16::from(kind) == number
+        && kind.announce_propagate() == passed_on(number)
 }
 
 // A kind by its name, as the kind of its number.
 fn is(kind: TlvType, number: u16, passed: bool) -> bool {
-    let k = TlvType::from_primitive(number);
-    (number_of(kind) == number_of(k))
-        & (kind.to_primitive() == number)
-        & (kind.announce_propagate() == passed)
+    kind == TlvType::from(number)
+        && u16::from(kind) == number
+        && kind.announce_propagate() == passed
 }
 
 pub fn name(n: u64) -> bool {

@@ -1,5 +1,7 @@
 // Cases of reads at a place, whatever follows it.
 use crate::reads;
+use crate::reads::Read;
+use refused::Refusal;
 use tlv::{TlvCursor, TlvRead};
 
 // Three entries, from bytes 0, 4 and 10 on.
@@ -10,17 +12,15 @@ const THREE: [u8; 18] = *b"\
 
 // Whether both reads at a place of these entries find this entry.
 fn entry(at: usize, number: u16, start: usize, size: usize) -> bool {
-    reads::is_entry(reads::single(&THREE, at), number, start, size)
-        & reads::is_entry(tlv_set::list_entry(&THREE, at), number, start, size)
+    reads::both(&THREE, at, |r| reads::is_entry(r, number, start, size))
 }
 
-fn refused(at: usize, number: u8) -> bool {
-    reads::is_refused(reads::single(&THREE, at), number)
-        & reads::is_refused(tlv_set::list_entry(&THREE, at), number)
+fn refused(at: usize, why: Refusal) -> bool {
+    reads::both(&THREE, at, |r| reads::is_refused(r, why))
 }
 
 fn end(at: usize) -> bool {
-    reads::is_end(reads::single(&THREE, at)) & reads::is_end(tlv_set::list_entry(&THREE, at))
+    reads::both(&THREE, at, reads::is_end)
 }
 
 // Each place in the list, and places past its end.
@@ -29,21 +29,21 @@ pub fn place(n: u64) -> bool {
         0 => entry(0, 0x0008, 4, 0),
         1 => entry(1, 0x0800, 5, 0),
         2 => entry(2, 0x0000, 6, 8),
-        3 => refused(3, 1),
+        3 => refused(3, Refusal::Short),
         4 => entry(4, 0x0008, 8, 2),
-        5 => refused(5, 4),
-        6 => refused(6, 1),
-        7 => refused(7, 1),
-        8 => refused(8, 1),
+        5 => refused(5, Refusal::OddTlv),
+        6 => refused(6, Refusal::Short),
+        7 => refused(7, Refusal::Short),
+        8 => refused(8, Refusal::Short),
         9 => entry(9, 0x0240, 13, 0),
         10 => entry(10, 0x4000, 14, 4),
-        11 => refused(11, 1),
-        12 => refused(12, 4),
-        13 => refused(13, 1),
-        14 => refused(14, 1),
-        15 => refused(15, 1),
-        16 => refused(16, 1),
-        17 => refused(17, 1),
+        11 => refused(11, Refusal::Short),
+        12 => refused(12, Refusal::OddTlv),
+        13 => refused(13, Refusal::Short),
+        14 => refused(14, Refusal::Short),
+        15 => refused(15, Refusal::Short),
+        16 => refused(16, Refusal::Short),
+        17 => refused(17, Refusal::Short),
         18 => end(18),
         19 => end(19),
         20 => end(22),
@@ -61,30 +61,40 @@ const ODD: [u8; 14] = *b"\x00\x08\x00\x02\x01\x02\x00\x08\x00\x01\x03\x04\x00\x0
 const LEFT: [u8; 8] = *b"\x00\x08\x00\x02\x01\x02\x00\x08";
 
 // At any place of a damaged list its own refusal comes first; a single read says only what stands there.
-fn odd_list(at: usize) -> bool {
-    reads::is_refused(tlv_set::list_entry(&ODD, at), 4)
+fn apart<F: Fn(Read) -> bool>(s: &[u8], at: usize, listed: Refusal, single: F) -> bool
+    requires { F.IsAlwaysCallable single }
+{
+    single(reads::single(s, at)) && reads::is_refused(tlv_set::list_entry(s, at), listed)
 }
 
-fn left_list(at: usize) -> bool {
-    reads::is_refused(tlv_set::list_entry(&LEFT, at), 1)
+fn odd<F: Fn(Read) -> bool>(at: usize, single: F) -> bool
+    requires { F.IsAlwaysCallable single }
+{
+    apart(&ODD, at, Refusal::OddTlv, single)
+}
+
+fn left<F: Fn(Read) -> bool>(at: usize, single: F) -> bool
+    requires { F.IsAlwaysCallable single }
+{
+    apart(&LEFT, at, Refusal::Short, single)
 }
 
 pub fn damaged(n: u64) -> bool {
     match n {
-        0 => reads::is_entry(reads::single(&ODD, 0), 8, 4, 2) & odd_list(0),
-        1 => reads::is_refused(reads::single(&ODD, 6), 4) & odd_list(6),
-        2 => reads::is_refused(reads::single(&ODD, 7), 4) & odd_list(7),
-        3 => reads::is_refused(reads::single(&ODD, 9), 1) & odd_list(9),
-        4 => reads::is_refused(reads::single(&ODD, 10), 1) & odd_list(10),
-        5 => reads::is_refused(reads::single(&ODD, 12), 1) & odd_list(12),
-        6 => reads::is_refused(reads::single(&ODD, 13), 1) & odd_list(13),
-        7 => reads::is_end(reads::single(&ODD, 14)) & odd_list(14),
-        8 => reads::is_end(reads::single(&ODD, usize::MAX)) & odd_list(usize::MAX),
-        9 => reads::is_entry(reads::single(&LEFT, 0), 8, 4, 2) & left_list(0),
-        10 => reads::is_refused(reads::single(&LEFT, 6), 1) & left_list(6),
-        11 => reads::is_refused(reads::single(&LEFT, 4), 1) & left_list(4),
-        12 => reads::is_end(reads::single(&LEFT, 8)) & left_list(8),
-        13 => reads::is_end(reads::single(&LEFT, usize::MAX)) & left_list(usize::MAX),
+        0 => odd(0, |r| reads::is_entry(r, 8, 4, 2)),
+        1 => odd(6, |r| reads::is_refused(r, Refusal::OddTlv)),
+        2 => odd(7, |r| reads::is_refused(r, Refusal::OddTlv)),
+        3 => odd(9, |r| reads::is_refused(r, Refusal::Short)),
+        4 => odd(10, |r| reads::is_refused(r, Refusal::Short)),
+        5 => odd(12, |r| reads::is_refused(r, Refusal::Short)),
+        6 => odd(13, |r| reads::is_refused(r, Refusal::Short)),
+        7 => odd(14, reads::is_end),
+        8 => odd(usize::MAX, reads::is_end),
+        9 => left(0, |r| reads::is_entry(r, 8, 4, 2)),
+        10 => left(6, |r| reads::is_refused(r, Refusal::Short)),
+        11 => left(4, |r| reads::is_refused(r, Refusal::Short)),
+        12 => left(8, reads::is_end),
+        13 => left(usize::MAX, reads::is_end),
         _ => damaged_start(n),
     }
 }
@@ -92,37 +102,32 @@ pub fn damaged(n: u64) -> bool {
 // Bytes that no entry begins.
 fn damaged_start(n: u64) -> bool {
     match n {
-        14 => reads::is_end(reads::single(b"", 0)) & reads::is_end(tlv_set::list_entry(b"", 0)),
-        15 => reads::is_end(reads::single(b"", 1)) & reads::is_end(tlv_set::list_entry(b"", 1)),
-        16 => reads::is_end(reads::single(b"\x00", 1))
-            & reads::is_refused(tlv_set::list_entry(b"\x00", 1), 1),
-        17 => reads::is_end(reads::single(b"", usize::MAX))
-            & reads::is_end(tlv_set::list_entry(b"", usize::MAX)),
-        _ => reads::is_refused(reads::single(b"\x00\x08\x00\x01\x00", 0), 4)
-            & reads::is_refused(tlv_set::list_entry(b"\x00\x08\x00\x01\x00", 7), 4),
+        14 => reads::both(b"", 0, reads::is_end),
+        15 => reads::both(b"", 1, reads::is_end),
+        16 => apart(b"\x00", 1, Refusal::Short, reads::is_end),
+        17 => reads::both(b"", usize::MAX, reads::is_end),
+        _ => reads::is_refused(reads::single(b"\x00\x08\x00\x01\x00", 0), Refusal::OddTlv)
+            && reads::is_refused(
+                tlv_set::list_entry(b"\x00\x08\x00\x01\x00", 7),
+                Refusal::OddTlv,
+            ),
     }
 }
 
-// The place after the entry at a place, or usize::MAX where there is no entry.
-fn after(c: TlvCursor) -> usize {
+// The place after the entry at a place, where there is one.
+fn after(c: TlvCursor) -> Option<usize> {
     match c.next(&THREE) {
-        TlvRead::Entry {
-            tlv_type: _,
-            start: _,
-            len: _,
-            next,
-        } => next.at,
-        TlvRead::End => usize::MAX,
-        TlvRead::Refused(_) => usize::MAX,
+        Ok(TlvRead::Entry { next, .. }) => Some(next.at),
+        _ => None,
     }
 }
 
 // From the start of the list to its end.
 pub fn walk(n: u64) -> bool {
     match n {
-        0 => after(TlvCursor::new()) == 4,
-        1 => after(TlvCursor { at: 4 }) == 10,
-        2 => after(TlvCursor { at: 10 }) == 18,
-        _ => after(TlvCursor { at: 18 }) == usize::MAX,
+        0 => after(TlvCursor::new()) == Some(4),
+        1 => after(TlvCursor { at: 4 }) == Some(10),
+        2 => after(TlvCursor { at: 10 }) == Some(18),
+        _ => after(TlvCursor { at: 18 }).is_none(),
     }
 }

@@ -1,6 +1,6 @@
 -- A list of TLVs as entries one after the other: the rule of a list takes exactly the bytes of such a list.
 -- Assumes nothing.
-use Rattle.std.specs.Prelude.{ℕ, zero, suc, ◌+◌, ◌%◌, ◌≤◌, ◌<◌, ◌≡◌, refl, true}
+use Rattle.std.specs.Prelude.{ℕ, zero, suc, ◌+◌, ◌%◌, ◌≤◌, ◌<◌, ◌≡◌, refl, true, Result, Ok, Err}
 use Rattle.std.proofs.Common.{zero-le, sym, ◌∙◌, subst, not-suc-le-zero, arith, length-append, length-drop, take-append-drop, take_at, drop-drop, get_or-drop, length-take-le, eqb-true, eq-eqb}
 use Rattle.std.proofs.Math.Path.{ap, ap₂}
 use mathlib.Core.List.{List, [], ◌∷◌, ◌++◌, append_assoc}
@@ -10,7 +10,8 @@ use Rattle.wire.specs.Be.{Bytes, be_at, bytes_of}
 use Rattle.wire.proofs.BeLaws.{be_at-bound, length-bytes_of, be-bytes, bytes-be}
 use Rattle.tlv.specs.declared.TlvCursor.{TlvCursor}
 use Rattle.tlv.specs.declared.TlvRead.{TlvRead}
-use Rattle.tlv.specs.declared.TlvRead.TheVariants.{Entry, End, Refused}
+use Rattle.tlv.specs.declared.TlvRead.TheVariants.{Entry, End}
+use Rattle.refused.specs.declared.Refusal.{Refusal}
 use Rattle.tlv.specs.Tlv.{Tlv, least_left, entry_at, read_at, check_read, list_check, check_list, whole_entries}
 use Rattle.tlv_builder.specs.Builder.{entry_bytes, list_bytes}
 use Rattle.tlv_builder.proofs.BuilderLaws.{length-entry_bytes, list-more}
@@ -70,10 +71,10 @@ module _ (p : List ℕ) (e : Tlv) (rest : List ℕ) (v : Even e) where
   long = simp (length-append, length-entry_bytes)
 
   read-there : (least : ℕ) → least ≤ length e.value + 4 + length rest
-      → entry_at least s (length p) ≡ Entry e.type (length p + 4) (length e.value) (record { at = length p + 4 + length e.value })
+      → entry_at least s (length p) ≡ Ok (Entry e.type (length p + 4) (length e.value) (record { at = length p + 4 + length e.value }))
   read-there least h =
       sym (read-entry least s (length p) (omega (arith, long)) (omega (arith, long)) (ap (λ (n : ℕ). n % 2) size-read ∙ v.even) (omega (arith, long, size-read)))
-      ∙ (λ i. Entry (type-read i) (length p + 4) (size-read i) (record { at = length p + 4 + size-read i }))
+      ∙ (λ i. Ok (Entry (type-read i) (length p + 4) (size-read i) (record { at = length p + 4 + size-read i })))
 
   -- its value stands after the four bytes
   value_there : take (length e.value) (drop (length p + 4) s) ≡ e.value
@@ -94,7 +95,7 @@ module _ (p : List ℕ) (e : Tlv) (rest : List ℕ) (v : Even e) where
 -- of a list that a reader takes, the cursor shows each entry at its place, the next place being that of the next entry
 pub shown : (before : List Tlv) (e : Tlv) (after : List Tlv) → Even e → LastFull (e ∷ after)
     → (read_at (list_bytes before ++ list_bytes (e ∷ after)) (length (list_bytes before))
-    ≡ Entry e.type (length (list_bytes before) + 4) (length e.value) (record { at = length (list_bytes (before ++ (e ∷ []))) }))
+    ≡ Ok (Entry e.type (length (list_bytes before) + 4) (length e.value) (record { at = length (list_bytes (before ++ (e ∷ []))) })))
     × (take (length e.value) (drop (length (list_bytes before) + 4) (list_bytes before ++ list_bytes (e ∷ after))) ≡ e.value)
 unfolding list_bytes
 shown before e after v f =
@@ -104,7 +105,7 @@ shown before e after v f =
     let next : length p + 4 + length e.value ≡ length (list_bytes (before ++ (e ∷ []))) =
     rw (list-more before e, length-append, length-entry_bytes) (omega arith) in (
       read-there p e rest v least_left (omega (arith, least, length-list e after))
-          ∙ ap (λ (n : ℕ). Entry e.type (length p + 4) (length e.value) (record { at = n })) next,
+          ∙ ap (λ (n : ℕ). Ok (Entry e.type (length p + 4) (length e.value) (record { at = n }))) next,
       value_there p e rest v,
     )
 
@@ -184,11 +185,11 @@ pass_in : (least k : ℕ) (s : List ℕ) → length s < k → Bytes s → list_c
 pass_in least zero s h b e = absurd (not-suc-le-zero h)
 pass_in least (suc k) s h b e = by (pass_in least k) (entry_at least s 0) refl (sym (unrolled least s) ∙ e)
   where
-    by : ((m : List ℕ) → length m < k → Bytes m → list_check least m ≡ 0 → Entries least m) → (r : TlvRead) → entry_at least s 0 ≡ r
+    by : ((m : List ℕ) → length m < k → Bytes m → list_check least m ≡ 0 → Entries least m) → (r : Result TlvRead Refusal) → entry_at least s 0 ≡ r
         → check_read (list_check least) s r ≡ 0 → Entries least s
-    by ih End q z = subst (Entries least) (no_bytes s (none_read least s 0 q)) (nothing least)
-    by ih (Refused n) q z = absurd (omega (arith, refusal-read least s 0 n q, z))
-    by ih (Entry t start l next) q z =
+    by ih (Ok End) q z = subst (Entries least) (no_bytes s (none_read least s 0 q)) (nothing least)
+    by ih (Err r) q z = absurd (omega (arith, refusal-read least s 0 r q, z))
+    by ih (Ok (Entry t start l next)) q z =
         let r = entry_read least s 0 t start l next q in
         more least s b t start l next r
         (ih (drop next.at s) (omega (arith, length-drop next.at s, r.after, r.within)) (λ i. rw get_or-drop (b (next.at + i))) z)

@@ -6,51 +6,42 @@ use replay::{STDOUT_FILENO, print_flag, print8, print16};
 use tlv_type::TlvType;
 
 // What is told of a number: the code of its name, whether it is passed on, and whether its kind has the same number.
-#[derive(Clone, Copy)]
+#[derive(Clone, Copy, PartialEq, Eq)]
 struct Kind {
-    code: u8,
+    code: Option<u8>,
     passed_on: bool,
     keeps: bool,
 }
 
 fn kind_of(number: u16) -> Kind {
-    let tlv_type = TlvType::from_primitive(number);
-    let code = kind_code::name_code(tlv_type);
-    let passed_on = tlv_type.announce_propagate();
-    let keeps = tlv_type.to_primitive() == number;
+    let kind = TlvType::from(number);
     Kind {
-        code,
-        passed_on,
-        keeps,
+        code: kind_code::name_code(kind),
+        passed_on: kind.announce_propagate(),
+        keeps: u16::from(kind) == number,
     }
 }
 
-fn same(a: Kind, b: Kind) -> bool {
-    a.code == b.code && a.passed_on == b.passed_on && a.keeps == b.keeps
-}
-
-// Writes a run of numbers of one kind.
+// Writes a run of numbers of one kind. A kind without a name has the code 0.
 fn print_run(first: u16, last: u16, kind: Kind) {
-    io::print_hex(STDOUT_FILENO, first as u64, 4);
+    io::print_hex(STDOUT_FILENO, u64::from(first), 4);
     print16(last);
-    print8(kind.code);
+    print8(kind.code.unwrap_or(0));
     print_flag(kind.passed_on);
     print_flag(kind.keeps);
     replay::print_end();
 }
 
 fn main() {
-    let mut first: u16 = 0;
-    let mut last: u16 = 0;
+    let mut first = 0;
     let mut kind = kind_of(0);
-    while last < u16::MAX {
-        let next = kind_of(last + 1);
-        if !same(kind, next) {
-            print_run(first, last, kind);
-            first = last + 1;
+    for number in 1..=u16::MAX {
+        let next = kind_of(number);
+        if next != kind {
+            print_run(first, number - 1, kind);
+            first = number;
             kind = next;
         }
-        last += 1;
     }
-    print_run(first, last, kind);
+    print_run(first, u16::MAX, kind);
 }

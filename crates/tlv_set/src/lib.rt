@@ -5,16 +5,8 @@ ghost use Rattle.std.specs.Prelude.{◌≡◌, ◌+◌, ◌≤◌, length, take,
 ghost use Rattle.tlv.specs.Tlv.{read_at, check_list};
 ghost use Rattle.tlv_set.specs.View.{list_read};
 
+use refused::Refusal;
 use tlv::{TlvCursor, TlvRead};
-
-// A part of the bytes, by its start and its length.
-fn part(s: &[u8], start: usize, len: usize) -> &[u8]
-    requires { start + len ≤ length s.now }
-    ensures { result.now ≡ take len (drop start s.now) }
-{
-    let end = start + len;
-    &s[start..end]
-}
 
 // The view: it keeps the caller's bytes, a list that a reader takes.
 #[derive(Drop)]
@@ -38,7 +30,7 @@ impl<'a> TlvSet<'a> {
     }
 
     // The entry at a place.
-    pub fn tlv(self, at: TlvCursor) -> TlvRead
+    pub fn tlv(self, at: TlvCursor) -> Result<TlvRead, Refusal>
         ensures { result ≡ read_at self.entry.bytes.now at.at }
     {
         at.next(self.bytes)
@@ -49,12 +41,12 @@ impl<'a> TlvSet<'a> {
         requires { start + len ≤ length self.bytes.now }
         ensures { result.now ≡ take len (drop start self.entry.bytes.now) }
     {
-        part(self.bytes, start, len)
+        &self.bytes[start..start + len]
     }
 }
 
 // The entry at a place of a list that a reader takes, by the view.
-fn view_entry(s: &[u8], at: TlvCursor) -> TlvRead
+fn view_entry(s: &[u8], at: TlvCursor) -> Result<TlvRead, Refusal>
     requires { check_list s.now ≡ 0 }
     ensures { result ≡ read_at s.now at.at }
 {
@@ -62,12 +54,9 @@ fn view_entry(s: &[u8], at: TlvCursor) -> TlvRead
 }
 
 // The entry at a place of a list: the list's own refusal, where it has one, comes first.
-pub fn list_entry(s: &[u8], at: usize) -> TlvRead
+pub fn list_entry(s: &[u8], at: usize) -> Result<TlvRead, Refusal>
     ensures { result ≡ list_read s.now at }
 {
-    let n = tlv::check(s);
-    if n != 0 {
-        return TlvRead::Refused(n);
-    }
+    tlv::check(s)?;
     view_entry(s, TlvCursor { at })
 }

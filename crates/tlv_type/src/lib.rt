@@ -5,7 +5,7 @@ ghost use Rattle.std.specs.Prelude.{◌≡◌};
 ghost use Rattle.tlv_type.specs.Kind.{kind_of, number_of, passed_on};
 
 // The kinds that have names, and any other number.
-#[derive(Clone, Copy)]
+#[derive(Clone, Copy, Debug, PartialEq, Eq)]
 pub enum TlvType {
     Management,
     ManagementErrorStatus,
@@ -31,11 +31,12 @@ pub enum TlvType {
     Other(u16),
 }
 
-impl TlvType {
-    // The kind of a number.
-    pub fn from_primitive(value: u16) -> TlvType
-        ensures { result ≡ kind_of value }
-    {
+// The kind of a number.
+impl From<u16> for TlvType {
+    ghost from_gives = { λ value kind. kind ≡ kind_of value };
+
+    #[tactic(auto, unfolding(crate::specs::Kind::kind_of))]
+    fn from(value: u16) -> TlvType {
         match value {
             0x0000 | 0x000a..=0x3fff | 0x4002..=0x7fff | 0x800a..=0xffff => TlvType::Other(value),
             0x0001 => TlvType::Management,
@@ -61,12 +62,14 @@ impl TlvType {
             0x8009 => TlvType::Authentication,
         }
     }
+}
 
-    // The number of a kind.
-    pub fn to_primitive(self) -> u16
-        ensures { result ≡ number_of self }
-    {
-        match self {
+// The number of a kind.
+impl From<TlvType> for u16 {
+    ghost from_gives = { λ kind value. value ≡ number_of kind };
+
+    fn from(kind: TlvType) -> u16 {
+        match kind {
             TlvType::Management => 0x0001,
             TlvType::ManagementErrorStatus => 0x0002,
             TlvType::OrganizationExtension => 0x0003,
@@ -91,14 +94,13 @@ impl TlvType {
             TlvType::Other(value) => value,
         }
     }
+}
 
+impl TlvType {
     // Whether an entry of this kind is passed on downstream with an announce.
     pub fn announce_propagate(self) -> bool
         ensures { result ≡ passed_on (number_of self) }
     {
-        match self.to_primitive() {
-            0x0008 | 0x0009 | 0x4000..=0x7fff => true,
-            _ => false,
-        }
+        matches!(u16::from(self), 0x0008 | 0x0009 | 0x4000..=0x7fff)
     }
 }

@@ -6,13 +6,13 @@ use Rattle.foreign_master.proofs.register_announce_message.Reads as register-ann
 use Rattle.foreign_master.proofs.step_age.Reads as step-age
 use Rattle.bmca.proofs.decide.Reads as decide
 use Rattle.candidates.proofs.candidate.Reads as candidate
-use Rattle.unique.specs.Once.{OneAnswer, OneAnswerAndExit, alike}
+use Rattle.unique.specs.Once.{OneAnswer, OneAnswerAndExit, alike, alike-number}
 
 pub checked : OneAnswer check.Learnt
-checked κs a z z' e e' p q = alike p q
+checked κs a z z' e e' p q = alike-number p q
 
 pub started : OneAnswerAndExit fresh_start.Learnt (λ κs e. e.0.now)
-started κs a z z' e e' p q = (alike p.0 q.0, alike p.1 q.1)
+started κs a z z' e e' p q = (alike-number p.0 q.0, alike p.1 q.1)
 
 pub registered : OneAnswerAndExit register-announce-message.Learnt (λ κs e. e.0.now)
 registered κs a z z' e e' p q = (alike p.0 q.0, alike p.1 q.1)

@@ -32,7 +32,7 @@ pub const LONG: [u8; 70] = *b"\
     \x00\x08\x00\x02\xA5\x5A";
 
 // What a frame holds.
-#[derive(Clone, Copy)]
+#[derive(Clone, Copy, PartialEq, Eq)]
 pub struct Message {
     pub kind: MessageType,
     pub length: u16,
@@ -48,7 +48,7 @@ pub fn f_header(n: u16) -> Header {
     };
     Header {
         sdo_id: 0,
-        version: version,
+        version,
         domain_number: 0,
         alternate_master_flag: false,
         two_step_flag: false,
@@ -93,6 +93,21 @@ pub fn f_content(h: Header) -> AnnounceMessage {
     }
 }
 
+// The header of F(1) with the sdo and the versions as told.
+pub fn versioned(sdo: u16, major: u8, minor: u8) -> Header {
+    let mut h = f_header(1);
+    h.sdo_id = sdo;
+    h.version = PtpVersion { major, minor };
+    h
+}
+
+// The content of F(n) after a header, with the seconds as told.
+pub fn timed(h: Header, seconds: u64) -> AnnounceMessage {
+    let mut a = f_content(h);
+    a.origin_timestamp = WireTimestamp { seconds, nanos: 0 };
+    a
+}
+
 // The message F(1).
 pub fn f_message() -> AnnounceMessage {
     f_content(f_header(1))
@@ -103,7 +118,7 @@ pub fn announced(content: AnnounceMessage) -> Message {
     Message {
         kind: MessageType::Announce,
         length: 64,
-        content: content,
+        content,
     }
 }
 
@@ -146,28 +161,20 @@ pub fn one_flag(mut h: Header, place: u64) -> Header {
     h
 }
 
-// The number of a type.
-pub fn type_number(t: MessageType) -> u8 {
-    match t {
-        MessageType::Sync => 0,
-        MessageType::DelayReq => 1,
-        MessageType::PDelayReq => 2,
-        MessageType::PDelayResp => 3,
-        MessageType::FollowUp => 8,
-        MessageType::DelayResp => 9,
-        MessageType::PDelayRespFollowUp => 10,
-        MessageType::Announce => 11,
-        MessageType::Signaling => 12,
-        MessageType::Management => 13,
-    }
-}
-
-// Whether a number names a type.
-pub fn known(number: u64) -> bool {
+// The type that a number names.
+pub fn named(number: u64) -> Option<MessageType> {
     match number {
-        0..=3 => true,
-        8..=13 => true,
-        _ => false,
+        0 => Some(MessageType::Sync),
+        1 => Some(MessageType::DelayReq),
+        2 => Some(MessageType::PDelayReq),
+        3 => Some(MessageType::PDelayResp),
+        8 => Some(MessageType::FollowUp),
+        9 => Some(MessageType::DelayResp),
+        10 => Some(MessageType::PDelayRespFollowUp),
+        11 => Some(MessageType::Announce),
+        12 => Some(MessageType::Signaling),
+        13 => Some(MessageType::Management),
+        _ => None,
     }
 }
 

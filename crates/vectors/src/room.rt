@@ -1,17 +1,21 @@
 // What a target holds, before anything is written and after.
 
+// Whether a target holds these bytes, and after them at each place what is told of it.
+fn holds_then<F: Fn(usize) -> u8>(target: &[u8], bytes: &[u8], rest: F) -> bool
+    requires { F.IsAlwaysCallable rest }
+{
+    match target.strip_prefix(bytes) {
+        Some(tail) => tail
+            .iter()
+            .zip(bytes.len()..target.len())
+            .all(|(x, i)| *x == rest(i)),
+        None => false,
+    }
+}
+
 // Whether a target holds these bytes, and one value after them.
 pub fn holds(target: &[u8], bytes: &[u8], rest: u8) -> bool {
-    if target.len() < bytes.len() {
-        return false;
-    }
-    for i in 0..target.len() {
-        let want = if i < bytes.len() { bytes[i] } else { rest };
-        if target[i] != want {
-            return false;
-        }
-    }
-    true
+    holds_then(target, bytes, |_| rest)
 }
 
 // What lies in a target before anything is written.
@@ -21,21 +25,19 @@ pub fn laid(i: usize) -> u8 {
 
 // Fills a target with it.
 pub fn fill(target: &mut [u8]) {
-    for i in 0..target.len() {
-        target[i] = laid(i);
+    for (i, x) in target.iter_mut().enumerate() {
+        *x = laid(i);
+    }
+}
+
+// Writes a number of n bytes where the target has room for it.
+pub fn put(target: &mut [u8], at: usize, n: usize, x: u64) {
+    if at <= target.len() && n <= target.len() - at {
+        wire::put_be(target, at, n, x);
     }
 }
 
 // Whether a target holds these bytes, and after them what lay in it.
 pub fn holds_over(target: &[u8], bytes: &[u8]) -> bool {
-    if target.len() < bytes.len() {
-        return false;
-    }
-    for i in 0..target.len() {
-        let want = if i < bytes.len() { bytes[i] } else { laid(i) };
-        if target[i] != want {
-            return false;
-        }
-    }
-    true
+    holds_then(target, bytes, laid)
 }

@@ -1,8 +1,8 @@
 -- A verdict as an order, and whether topology alone decided it.
 -- Assumes nothing.
 use Rattle.std.specs.Prelude.{Bool, true, false}
-use Rattle.order.specs.declared.Ordering.{Ordering}
-use Rattle.order.specs.declared.Ordering.TheVariants.{Less, Equal, Greater}
+use Rattle.std.specs.declared.cmp.Ordering.{Ordering}
+use Rattle.std.specs.declared.cmp.Ordering.TheVariants.{Less, Equal, Greater}
 use Rattle.order.specs.Order.{is_greater}
 use Rattle.verdict.specs.declared.DatasetOrdering.{DatasetOrdering}
 use Rattle.verdict.specs.declared.DatasetOrdering.TheVariants.{Better, BetterByTopology, Error1, Error2, WorseByTopology, Worse}

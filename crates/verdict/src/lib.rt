@@ -4,7 +4,7 @@
 ghost use Rattle.std.specs.Prelude.{◌≡◌};
 ghost use Rattle.verdict.specs.Verdict.{as_ordering, ranks_above, is_by_topology};
 
-use order::Ordering;
+use std::cmp::Ordering;
 
 // The verdict on the left side of a comparison.
 #[derive(Clone, Copy)]
@@ -23,12 +23,9 @@ impl DatasetOrdering {
         ensures { result ≡ as_ordering self }
     {
         match self {
-            DatasetOrdering::Better => Ordering::Greater,
-            DatasetOrdering::BetterByTopology => Ordering::Greater,
-            DatasetOrdering::Error1 => Ordering::Equal,
-            DatasetOrdering::Error2 => Ordering::Equal,
-            DatasetOrdering::WorseByTopology => Ordering::Less,
-            DatasetOrdering::Worse => Ordering::Less,
+            DatasetOrdering::Better | DatasetOrdering::BetterByTopology => Ordering::Greater,
+            DatasetOrdering::Error1 | DatasetOrdering::Error2 => Ordering::Equal,
+            DatasetOrdering::WorseByTopology | DatasetOrdering::Worse => Ordering::Less,
         }
     }
 
@@ -36,27 +33,16 @@ impl DatasetOrdering {
     pub fn ranks_above(self) -> bool
         ensures { result ≡ ranks_above self }
     {
-        match self {
-            DatasetOrdering::Better => true,
-            DatasetOrdering::BetterByTopology => true,
-            DatasetOrdering::Error1 => false,
-            DatasetOrdering::Error2 => false,
-            DatasetOrdering::WorseByTopology => false,
-            DatasetOrdering::Worse => false,
-        }
+        matches!(
+            self,
+            DatasetOrdering::BetterByTopology | DatasetOrdering::Better
+        )
     }
 
     // Better, by the network's topology alone.
     pub fn by_topology(self) -> bool
         ensures { result ≡ is_by_topology self }
     {
-        match self {
-            DatasetOrdering::Better => false,
-            DatasetOrdering::BetterByTopology => true,
-            DatasetOrdering::Error1 => false,
-            DatasetOrdering::Error2 => false,
-            DatasetOrdering::WorseByTopology => false,
-            DatasetOrdering::Worse => false,
-        }
+        matches!(self, DatasetOrdering::BetterByTopology)
     }
 }

@@ -1,9 +1,7 @@
-// Big-endian numbers of 1 to 8 bytes in byte slices, signed numbers as their bits, and a layout of fields.
+// Big-endian numbers of 1 to 8 bytes in byte slices, and a layout of fields.
 #![tactic(auto)]
 
 ghost use Rattle.std.specs.Prelude.{◌≡◌, ◌+◌, ◌≤◌, ◌<◌, ◌^◌, length};
-ghost use Rattle.std.specs.Int.{w8, w16, w64};
-ghost use Rattle.std.proofs.Common.{to_z, of_z};
 ghost use Rattle.wire.specs.Be.{be_at, bytes_of, put};
 ghost use Rattle.wire.specs.Layout.{total, bytes_of_all};
 
@@ -13,10 +11,8 @@ pub fn be(s: &[u8], at: usize, n: usize) -> u64
     ensures { (result ≡ be_at s.now at n) × (result < 256 ^ n) }
 {
     let mut x: u64 = 0;
-    let mut i: usize = 0;
-    while i < n {
+    for i in 0..n {
         x = x * 256 + s[at + i] as u64;
-        i += 1;
     }
     x
 }
@@ -26,10 +22,8 @@ pub fn put_be(s: &mut [u8], at: usize, n: usize, x: u64)
     requires { at + n ≤ length s.old }
     ensures { s.new ≡ put s.old at (bytes_of n x) }
 {
-    let mut left = n;
     let mut rest = x;
-    while 0 < left {
-        left -= 1;
+    for left in (0..n).rev() {
         s[at + left] = (rest % 256) as u8;
         rest = rest / 256;
     }
@@ -77,13 +71,10 @@ pub fn put_fields(s: &mut [u8], at: usize, widths: &[usize], values: &[u64])
     requires { (length widths.now ≡ length values.now) × (at + total widths.now ≤ length s.old) }
     ensures { s.new ≡ put s.old at (bytes_of_all widths.now values.now) }
 {
-    let mut i = 0;
     let mut p = at;
-    while i < widths.len() {
-        let w = widths[i];
-        put_be(s, p, w, values[i]);
-        p += w;
-        i += 1;
+    for i in 0..widths.len() {
+        put_be(s, p, widths[i], values[i]);
+        p += widths[i];
     }
 }
 
@@ -93,46 +84,4 @@ pub fn put_bytes(s: &mut [u8], at: usize, bs: &[u8])
     ensures { s.new ≡ put s.old at bs.now }
 {
     s[at..at + bs.len()].copy_from_slice(bs);
-}
-
-// The signed number of some bits, and the bits of a signed number, in two's complement.
-
-pub fn i8_of(x: u8) -> i8
-    ensures { result ≡ to_z w8 x }
-{
-    if x < 0x80 { x as i8 } else { !((!x) as i8) }
-}
-
-pub fn i16_of(x: u16) -> i16
-    ensures { result ≡ to_z w16 x }
-{
-    if x < 0x8000 { x as i16 } else { !((!x) as i16) }
-}
-
-pub fn i64_of(x: u64) -> i64
-    ensures { result ≡ to_z w64 x }
-{
-    if x < 0x8000_0000_0000_0000 {
-        x as i64
-    } else {
-        !((!x) as i64)
-    }
-}
-
-pub fn bits8(z: i8) -> u8
-    ensures { result ≡ of_z w8 z }
-{
-    if 0 <= z { z as u8 } else { !((!z) as u8) }
-}
-
-pub fn bits16(z: i16) -> u16
-    ensures { result ≡ of_z w16 z }
-{
-    if 0 <= z { z as u16 } else { !((!z) as u16) }
-}
-
-pub fn bits64(z: i64) -> u64
-    ensures { result ≡ of_z w64 z }
-{
-    if 0 <= z { z as u64 } else { !((!z) as u64) }
 }

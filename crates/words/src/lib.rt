@@ -9,15 +9,12 @@ pub const BOOK: usize = 6580;
 pub const STORE: usize = 6600;
 
 pub fn word(s: &[u64], i: usize) -> u64 {
-    if i < s.len() {
-        return s[i];
-    }
-    0
+    s.get(i).copied().unwrap_or(0)
 }
 
 pub fn put(s: &mut [u64], i: usize, value: u64) {
-    if i < s.len() {
-        s[i] = value;
+    if let Some(x) = s.get_mut(i) {
+        *x = value;
     }
 }
 
@@ -26,48 +23,32 @@ pub fn laid(i: usize) -> u64 {
     (i % 65536) as u64 * 0x0001_0203_0405 + 7
 }
 
-// Fills a store with it.
-pub fn lay(s: &mut [u64]) {
-    for i in 0..s.len() {
-        s[i] = laid(i);
+// Fills a store: at each place what is told of it.
+pub fn fill_by<F: Fn(usize) -> u64>(s: &mut [u64], word: F)
+    requires { F.IsAlwaysCallable word }
+{
+    for (i, x) in s.iter_mut().enumerate() {
+        *x = word(i);
     }
+}
+
+// Fills a store with what lies in it before anything is written.
+pub fn lay(s: &mut [u64]) {
+    fill_by(s, laid);
 }
 
 // Copies a store into one of the same size; into another, nothing.
 pub fn copy(from: &[u64], to: &mut [u64]) {
-    if from.len() != to.len() {
-        return;
+    if from.len() == to.len() {
+        to.copy_from_slice(from);
     }
-    for i in 0..from.len() {
-        to[i] = from[i];
-    }
-}
-
-// Whether word i is the same in both, or stands from one place up to another.
-fn stays(a: &[u64], b: &[u64], i: usize, from: usize, to: usize) -> bool {
-    (word(a, i) == word(b, i)) | ((from <= i) & (i < to))
 }
 
 // Whether two stores are the same, but for the words from one place up to another.
 pub fn same_but(a: &[u64], b: &[u64], from: usize, to: usize) -> bool {
-    for i in 0..a.len() {
-        if !stays(a, b, i, from, to) {
-            return false;
-        }
-    }
-    true
-}
-
-pub fn same(a: &[u64], b: &[u64]) -> bool {
-    if a.len() != b.len() {
-        return false;
-    }
-    for i in 0..a.len() {
-        if a[i] != b[i] {
-            return false;
-        }
-    }
-    true
+    a.iter()
+        .enumerate()
+        .all(|(i, x)| *x == word(b, i) || (from..to).contains(&i))
 }
 
 // Where a port begins, which counts from 1: interval, count of masters.

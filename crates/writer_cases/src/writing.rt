@@ -1,6 +1,6 @@
 // Cases of the writer of frames: what it refuses, the bytes that it leaves, and what it wrote, read.
-use announce::{AnnounceMessage, WireTimestamp};
-use header::PtpVersion;
+use announce::AnnounceMessage;
+use refused::Refusal;
 use vectors::frames::F;
 use vectors::up::UP_AGAIN;
 use vectors::{frames, framing, room, up};
@@ -13,28 +13,14 @@ const AFTER_EMPTY: [u8; 10] = *b"\x00\x08\x00\x00\x00\x08\x00\x02\x01\x02";
 
 // The message F(1) with the sdo, the versions and the seconds as told.
 fn message(sdo: u16, major: u8, minor: u8, seconds: u64) -> AnnounceMessage {
-    let version = PtpVersion {
-        major: major,
-        minor: minor,
-    };
-    let origin = WireTimestamp {
-        seconds: seconds,
-        nanos: 0,
-    };
-    let mut h = frames::f_header(1);
-    h.sdo_id = sdo;
-    h.version = version;
-    let mut a = frames::f_content(h);
-    a.origin_timestamp = origin;
-    a
+    frames::timed(frames::versioned(sdo, major, minor), seconds)
 }
 
-// Whether a message is refused with this number in a room, and every byte left.
-fn refused(a: AnnounceMessage, tlvs: &[u8], room: usize, number: u8) -> bool {
+// Whether a message is refused so in a room, and every byte left.
+fn refused(a: AnnounceMessage, tlvs: &[u8], room: usize, why: Refusal) -> bool {
     let mut target = [0u8; 96];
     room::fill(&mut target);
-    let answer = framing::write(a, tlvs, &mut target, room);
-    (answer == number) & room::holds_over(&target, b"")
+    framing::write(a, tlvs, &mut target, room) == Err(why) && room::holds_over(&target, b"")
 }
 
 // Whether a message is taken in a room, and its bytes are these 64, but for byte 46, and the TLVs; every other byte is left.
@@ -45,18 +31,23 @@ fn taken(a: AnnounceMessage, tlvs: &[u8], room: usize, head: [u8; 64]) -> bool {
     framing::lay(&mut want, &head, tlvs);
     want[46] = room::laid(46);
     let end = 64 + tlvs.len() % 32;
-    let answer = framing::write(a, tlvs, &mut target, room);
-    (answer == 0) & room::holds_over(&target, framing::first(&want, end))
+    framing::write(a, tlvs, &mut target, room).is_ok()
+        && room::holds_over(&target, framing::first(&want, end))
 }
 
 // A message that will not fit, with a TLV.
 fn field(sdo: u16, major: u8, minor: u8, seconds: u64, room: usize) -> bool {
-    refused(message(sdo, major, minor, seconds), &ENTRY, room, 15)
+    refused(
+        message(sdo, major, minor, seconds),
+        &ENTRY,
+        room,
+        Refusal::Unfit,
+    )
 }
 
 // TLVs that are not made of whole even entries.
 fn tlvs(bytes: &[u8], room: usize) -> bool {
-    refused(frames::f_message(), bytes, room, 15)
+    refused(frames::f_message(), bytes, room, Refusal::Unfit)
 }
 
 // Each that will not fit, in a room of 96 bytes and in three that are short.
@@ -109,12 +100,8 @@ fn unfit_tlvs(n: u64, room: usize) -> bool {
 // The message with a field at its limit, whose n bytes from at on are these, with a TLV and without.
 fn limit(a: AnnounceMessage, at: usize, n: usize, x: u64) -> bool {
     let mut head = F;
-    if at <= 34 {
-        if n <= 30 {
-            wire::put_be(&mut head, at, n, x);
-        }
-    }
-    taken(a, &ENTRY, 96, head) & taken(a, &ENTRY, 70, head) & taken(a, b"", 64, head)
+    room::put(&mut head, at, n, x);
+    taken(a, &ENTRY, 96, head) && taken(a, &ENTRY, 70, head) && taken(a, b"", 64, head)
 }
 
 // F(1) with TLVs.
@@ -145,54 +132,61 @@ pub fn fit(n: u64) -> bool {
 // F(1) with a TLV, and without, in each room from 0 to 96 bytes.
 pub fn room(n: u64) -> bool {
     let size = (n % 97) as usize;
-    let f = frames::f_message();
     if n < 97 {
-        if size < 70 {
-            return refused(f, &ENTRY, size, 1);
-        }
-        return taken(f, &ENTRY, size, F);
+        in_room(&ENTRY, size)
+    } else {
+        in_room(b"", size)
     }
-    if size < 64 {
-        return refused(f, b"", size, 1);
+}
+
+// F(1) with up to six bytes of TLVs in a room.
+fn in_room(tlvs: &[u8], room: usize) -> bool {
+    if room < 64 + tlvs.len() % 32 {
+        refused(frames::f_message(), tlvs, room, Refusal::Short)
+    } else {
+        taken(frames::f_message(), tlvs, room, F)
     }
-    taken(f, b"", size, F)
 }
 
 // Whether a message with these TLVs is written as these 64 bytes and the TLVs, and what was written is answered so by the
 // reader: alone, and with bytes after it.
-fn read_back(a: AnnounceMessage, head: [u8; 64], tlvs: &[u8], answer: u8) -> bool {
+fn read_back(a: AnnounceMessage, head: [u8; 64], tlvs: &[u8], answer: Result<(), Refusal>) -> bool {
     let mut target = [0u8; 96];
     room::fill(&mut target);
     let got = framing::write(a, tlvs, &mut target, 96);
     let end = 64 + tlvs.len() % 32;
-    (got == 0)
-        & taken(a, tlvs, end, head)
-        & framing::answers(&target, answer, a, end)
-        & framing::answers(framing::first(&target, end), answer, a, end)
+    got.is_ok()
+        && taken(a, tlvs, end, head)
+        && framing::answers(&target, answer, a, end)
+        && framing::answers(framing::first(&target, end), answer, a, end)
 }
 
-fn f_back(tlvs: &[u8], answer: u8) -> bool {
+fn f_back(tlvs: &[u8], answer: Result<(), Refusal>) -> bool {
     read_back(frames::f_message(), F, tlvs, answer)
 }
 
 // An empty last entry is written, and refused by the reader; any other empty one is taken.
 pub fn empty_last(n: u64) -> bool {
     match n {
-        0 => f_back(b"\x00\x08\x00\x00", 1),
-        1 => f_back(b"\x00\x08\x00\x02\x01\x02\x00\x08\x00\x00", 1),
-        2 => f_back(b"\x00\x08\x00\x00\x00\x08\x00\x00", 1),
-        3 => f_back(&AFTER_EMPTY, 0),
-        4 => f_back(&ENTRY, 0),
-        _ => f_back(b"", 0),
+        0 => f_back(b"\x00\x08\x00\x00", Err(Refusal::Short)),
+        1 => f_back(
+            b"\x00\x08\x00\x02\x01\x02\x00\x08\x00\x00",
+            Err(Refusal::Short),
+        ),
+        2 => f_back(b"\x00\x08\x00\x00\x00\x08\x00\x00", Err(Refusal::Short)),
+        3 => f_back(&AFTER_EMPTY, Ok(())),
+        4 => f_back(&ENTRY, Ok(())),
+        _ => f_back(b"", Ok(())),
     }
 }
 
 // F(1), or the message whose bytes differ, with these TLVs: written and read.
 fn back(n: u64, tlvs: &[u8]) -> bool {
     if n % 2 == 0 {
-        return read_back(frames::f_message(), F, tlvs, 0);
+        read_back(frames::f_message(), F, tlvs, Ok(()))
+    } else {
+        read_back(up::up_content(), UP_AGAIN, tlvs, Ok(()))
     }
-    read_back(up::up_content(), UP_AGAIN, tlvs, 0)
 }
 
 pub fn written_read(n: u64) -> bool {

@@ -1,5 +1,5 @@
 -- `ageing::count_stale` meets its contract. Assumes nothing.
-use Rattle.std.proofs.Common.{◌≡◌, ℕ, ◌-◌, Bool, false, get_or, sym, arith, below_none, below_more, le-ltb, lt-ltb}
+use Rattle.std.proofs.Common.{◌≡◌, ℕ, Bool, false, get_or, sym, arith, below_none, below_more, le-ltb, lt-ltb}
 use Rattle.book.specs.Below.{first_found, first-none}
 use Rattle.history.specs.Port.{young}
 use Rattle.book.specs.Layout.{message_at, reads}
@@ -7,7 +7,7 @@ use Rattle.ageing.specs.Age.{stale}
 use Rattle.ageing.proofs.count_stale.Goals as goal
 
 pub loop-k-init : goal.loop-k-init
-loop-k-init c = (omega arith, below_none _)
+loop-k-init c = below_none _
 
 pub returns-then-age_at-limit : goal.returns-then-age_at-limit
 unfolding stale
@@ -15,30 +15,18 @@ returns-then-age_at-limit c =
     let a = c.args in
     let l = c.loop-k in
     let p : ℕ → Bool = λ k. young reads a.limit (message_at a.master.now k) in
-    sym (first_found p (get_or a.master.now 3 0) l.k (omega arith) l.invariant.1 (rw c.age_at.ensures at (lt-ltb _ _ c.if-age_at-limit.true)))
-
-pub overflow_add-k : goal.overflow_add-k
-overflow_add-k c = omega (arith, c.type_inv.master 3)
+    sym (first_found p (get_or a.master.now 3 0) l.k (omega arith) l.invariant (rw c.age_at.ensures at (lt-ltb _ _ c.if-age_at-limit.true)))
 
 pub loop-k-preserved : goal.loop-k-preserved
 loop-k-preserved c =
     let a = c.args in
     let l = c.loop-k in
     let p : ℕ → Bool = λ k. young reads a.limit (message_at a.master.now k) in
-    (omega arith, below_more (λ j. p j ≡ false) l.k l.invariant.1 (rw c.age_at.ensures at (le-ltb _ _ c.if-age_at-limit.false)))
+    below_more (λ j. p j ≡ false) l.k l.invariant (rw c.age_at.ensures at (le-ltb _ _ c.if-age_at-limit.false))
 
 pub returns : goal.returns
 unfolding stale
 returns c =
     let a = c.args in
     let p : ℕ → Bool = λ k. young reads a.limit (message_at a.master.now k) in
-    sym (first-none p (get_or a.master.now 3 0) (λ j h. c.loop-k.invariant.1 j (omega arith)))
-
-pub bounds-master-3 : goal.bounds-master-3
-bounds-master-3 c = omega arith
-
-pub age_at-requires : goal.age_at-requires
-age_at-requires c = omega arith
-
-pub loop-k-smaller : goal.loop-k-smaller
-loop-k-smaller c = omega arith
+    sym (first-none p (get_or a.master.now 3 0) (λ j h. c.loop-k.invariant j (omega arith)))

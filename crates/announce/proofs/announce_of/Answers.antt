@@ -15,4 +15,4 @@ returns c =
     ap
     (λ (z : ℤ).
     announce_with a.header a.seconds a.nanos z a.priority1 a.class a.accuracy a.variance a.priority2 a.grandmaster a.steps a.source)
-    (kept w16 a.utc_offset f.utc_offset c.i16_of.ensures)
+    (kept w16 a.utc_offset f.utc_offset c.cast_signed.ensures)

@@ -1,11 +1,7 @@
 -- `announce_writer::put_content` meets its contract: the fields are written by the layout, with the numbers that the callees give.
 -- Assumes nothing.
-use native.Mathlib.Omega.{arith}
 use Rattle.announce.specs.Wire.{with_content, content_widths, content_values}
 use Rattle.announce_writer.proofs.put_content.Goals as goal
-
-pub put_fields-requires : goal.put_fields-requires
-put_fields-requires c = omega (arith, c.requires)
 
 pub returns : goal.returns
 unfolding with_content content_widths content_values

@@ -1,6 +1,6 @@
 -- `answers::put_ports` meets its contract. The loop's invariant: the states so far stand from word 4 on.
 -- Assumes nothing.
-use Prim.Native.Nat.{ℕ, ◌+◌, ◌*◌, ◌<◌}
+use Prim.Native.Nat.{ℕ, ◌+◌, ◌*◌, ◌<◌, ◌≤◌}
 use mathlib.Core.Path.{◌≡◌, refl, sym, ap, ◌∙◌}
 use mathlib.Core.List.{List}
 use native.Mathlib.Numerals.{add-one}
@@ -17,9 +17,7 @@ use Rattle.answers.proofs.put_ports.Goals as goal
 
 pub loop-i-init : goal.loop-i-init
 unfolding ports_words
-loop-i-init c =
-    let l : length c.args.answers ≡ 8 = search rules in
-    (omega arith, l, c.requires, refl, sym (put-nil _ 4))
+loop-i-init c = (refl, sym (put-nil _ 4))
 
 pub loop-i-preserved : goal.loop-i-preserved
 loop-i-preserved c =
@@ -31,14 +29,13 @@ loop-i-preserved c =
     let t = c.loop-i.s in
     let made = c.put_state.ensures in
     let lt : i < 8 = omega arith in
-    let l = ap length made ∙ length-next xs inv.1 i lt t _ inv.2 in (
-      omega arith,
-      inv.1,
-      omega (arith, l, inv.2),
-      l ∙ inv.3,
+    let eight : length xs ≡ 8 = search rules in
+    let room : 180 ≤ length t = omega (arith, c.requires, inv.0) in
+    let l = ap length made ∙ length-next xs eight i lt t _ room in (
+      l ∙ inv.0,
       made
-          ∙ ap (λ (u : List ℕ). put u (4 + i * 22) (state_words (get_or xs i _).state)) inv.4
-          ∙ rw add-one (put-next-state xs inv.1 i lt s _ (omega (arith, inv.2, inv.3))),
+          ∙ ap (λ (u : List ℕ). put u (4 + i * 22) (state_words (get_or xs i _).state)) inv.1
+          ∙ rw add-one (put-next-state xs eight i lt s _ c.requires),
     )
 
 pub returns : goal.returns
@@ -46,5 +43,6 @@ returns c =
     let a = c.args in
     let xs = a.answers in
     let inv = c.loop-i.invariant in
-    let e : c.loop-i.i ≡ length xs = omega arith in
-    record { s_after = inv.4 ∙ ap (λ (n : ℕ). put a.s.now 4 (ports_words (take n xs))) e ∙ ap (λ (l : List PortAnswer). put a.s.now 4 (ports_words l)) (take-length xs); answers_len = inv.1 }
+    let eight : length xs ≡ 8 = search rules in
+    let e : c.loop-i.i ≡ length xs = omega (arith, eight) in
+    record { s_after = inv.1 ∙ ap (λ (n : ℕ). put a.s.now 4 (ports_words (take n xs))) e ∙ ap (λ (l : List PortAnswer). put a.s.now 4 (ports_words l)) (take-length xs); answers_len = eight }

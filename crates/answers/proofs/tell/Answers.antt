@@ -6,14 +6,14 @@ use Rattle.wire.proofs.BeLaws.{put-nil}
 use Rattle.answers.specs.Answers.{answer_number, answer_words}
 use Rattle.answers.proofs.tell.Goals as goal
 
-pub returns-in-Refused : goal.returns-in-Refused
-returns-in-Refused c =
+pub returns-in-Err : goal.returns-in-Err
+returns-in-Err c =
     let a = c.args in
-    let e = sym c.in-Refused.is in
-    (ap answer_number e, sym (put-nil a.s.now 0) ∙ ap (λ t. put a.s.now 0 (answer_words t)) e)
+    let e = sym c.in-Err.is in
+    (c.number.ensures ∙ ap answer_number e, sym (put-nil a.s.now 0) ∙ ap (λ t. put a.s.now 0 (answer_words t)) e)
 
-pub returns-in-Done : goal.returns-in-Done
-returns-in-Done c =
+pub returns-in-Ok : goal.returns-in-Ok
+returns-in-Ok c =
     let a = c.args in
-    let e = sym c.in-Done.is in
+    let e = sym c.in-Ok.is in
     (ap answer_number e, c.put_tallies.ensures ∙ ap (λ t. put a.s.now 0 (answer_words t)) e)

@@ -5,12 +5,12 @@ use Rattle.wire.specs.Be.{put}
 use Rattle.answers.specs.Answers.{best_words}
 use Rattle.answers.proofs.tell_best.Goals as goal
 
-pub returns-in-Nothing : goal.returns-in-Nothing
-returns-in-Nothing c =
+pub returns-in-None : goal.returns-in-None
+returns-in-None c =
     let a = c.args in
-    (refl, c.put_words.ensures ∙ ap (λ t. put a.s.now 0 (best_words t)) (sym c.in-Nothing.is))
+    (refl, c.put_words.ensures ∙ ap (λ t. put a.s.now 0 (best_words t)) (sym c.in-None.is))
 
-pub returns-in-Found : goal.returns-in-Found
-returns-in-Found c =
+pub returns-in-Some : goal.returns-in-Some
+returns-in-Some c =
     let a = c.args in
-    (refl, c.put_found.ensures ∙ ap (λ t. put a.s.now 0 (best_words t)) (sym c.in-Found.is))
+    (refl, c.put_found.ensures ∙ ap (λ t. put a.s.now 0 (best_words t)) (sym c.in-Some.is))

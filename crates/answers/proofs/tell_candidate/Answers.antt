@@ -6,22 +6,15 @@ use Rattle.wire.proofs.BeLaws.{put-nil}
 use Rattle.answers.specs.Answers.{candidate_number, candidate_told}
 use Rattle.answers.proofs.tell_candidate.Goals as goal
 
-pub returns-in-Refused : goal.returns-in-Refused
-returns-in-Refused c =
+pub returns-in-Err : goal.returns-in-Err
+returns-in-Err c =
     let a = c.args in
-    let e = sym c.in-Refused.is in
-    (ap candidate_number e, sym (put-nil a.s.now 0) ∙ ap (λ t. put a.s.now 0 (candidate_told t)) e)
+    let e = sym c.in-Err.is in
+    (c.number.ensures ∙ ap candidate_number e, sym (put-nil a.s.now 0) ∙ ap (λ t. put a.s.now 0 (candidate_told t)) e)
 
-pub returns-in-Nothing : goal.returns-in-Nothing
-returns-in-Nothing c =
+pub returns-in-Ok : goal.returns-in-Ok
+returns-in-Ok c =
     let a = c.args in
-    let e = sym c.in-Nothing.is in
+    let e = sym c.in-Ok.is in
     let m = c.tell_best.ensures in
-    (m.0 ∙ ap candidate_number e, m.1 ∙ ap (λ t. put a.s.now 0 (candidate_told t)) e)
-
-pub returns-in-Found : goal.returns-in-Found
-returns-in-Found c =
-    let a = c.args in
-    let e = sym c.in-Found.is in
-    let m = c.tell_best-in-Found.ensures in
     (m.0 ∙ ap candidate_number e, m.1 ∙ ap (λ t. put a.s.now 0 (candidate_told t)) e)

@@ -5,7 +5,7 @@ use Rattle.book.proofs.Rules.{held}
 use Rattle.bmca.proofs.answer_at.Goals as goal
 
 pub returns : goal.returns
-returns c = λ i. record { port_number = add-one c.args.q i; state = c.state_at-state.ensures i }
+returns c = λ i. record { port_number = add-one c.args.q i; state = c.state_at.ensures i }
 
 pub overflow_cast-result : goal.overflow_cast-result
 overflow_cast-result c = omega (arith, (held c.args.store.now c.requires.1).ports)

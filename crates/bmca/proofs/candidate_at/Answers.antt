@@ -4,7 +4,7 @@ use Prim.Native.Nat.{◌≤◌, ◌<◌}
 use mathlib.Core.Path.{ap, ◌∙◌}
 use borrow.Author.Tests.{le-ltb, lt-ltb}
 use lib.ListN.{get_or}
-use Rattle.choice.specs.declared.Best.TheVariants.{Found}
+use Rattle.std.specs.Prelude.{Some}
 use Rattle.choice.specs.Candidate.{whole}
 use Rattle.slot.specs.Blocks.{block, length-block, get_or-block, part-block}
 use Rattle.book.specs.Layout.{port_words, port_at}
@@ -44,7 +44,7 @@ returns c =
     let winner = c.requires.winner_value in
     let l : winner_at s a.q < get_or (block s at port_words) 1 0 =
     omega (arith, get_or-block s at port_words 1 (omega arith), c.if-count-winner.false, winner) in
-    rw (lt-ltb _ _ l) (ap Found (c.candidate.ensures ∙ ap whole (c.best_at-best.ensures ∙ (λ i. best_at (receiver i) (here i) (winner i)))))
+    rw (lt-ltb _ _ l) (ap Some (c.candidate.ensures ∙ ap whole (c.best_at-best.ensures ∙ (λ i. best_at (receiver i) (here i) (winner i)))))
 
 pub overflow_mul-at : goal.overflow_mul-at
 overflow_mul-at c = omega (arith, (held c.args.store.now c.requires.store_words_in_bounds.1).ports)

@@ -4,7 +4,6 @@ use Prim.Native.Nat.{ℕ, ◌-◌, ◌<◌}
 use mathlib.Core.List.{List}
 use mathlib.Core.Path.{sym, ap, ◌∙◌}
 use lib.ListN.{get_or}
-use Rattle.decision.specs.State.{option_of}
 use Rattle.recommend.specs.Number.{carrying_best}
 use Rattle.book.proofs.Rules.{held}
 use Rattle.bmca.proofs.Planned.{winner_in, from-port}
@@ -17,18 +16,15 @@ erbest_at-requires c =
     let l : a.port - 1 < get_or a.store.now 0 0 = omega arith in
     record { store_words_in_bounds = (pre.0, pre.1, l); winner_value = ap (λ (ws : List ℕ). get_or ws (a.port - 1) 0) pre.2 ∙ winner_in a.store.now (a.port - 1) 0 l }
 
-pub returns-in-Nothing : goal.returns-in-Nothing
-returns-in-Nothing c =
+pub returns-in-None : goal.returns-in-None
+returns-in-None c =
     let a = c.args in
-    ap (carrying_best a.number)
-    (ap option_of (sym c.in-Nothing.is) ∙ c.erbest_at.ensures ∙ sym (from-port a.store.now a.port c.if-port-eq0.false))
+    ap (carrying_best a.number) (c.in-None.ensures ∙ sym (from-port a.store.now a.port c.if-port-eq0.false))
 
-pub returns-in-Found : goal.returns-in-Found
-returns-in-Found c =
+pub returns-in-Some : goal.returns-in-Some
+returns-in-Some c =
     let a = c.args in
-    c.carrying.ensures
-    ∙ ap (carrying_best a.number)
-    (ap option_of (sym c.in-Found.is) ∙ c.erbest_at.ensures ∙ sym (from-port a.store.now a.port c.if-port-eq0.false))
+    c.carrying.ensures ∙ ap (carrying_best a.number) (c.in-Some.ensures ∙ sym (from-port a.store.now a.port c.if-port-eq0.false))
 
 pub offset_bounds-winners-q : goal.offset_bounds-winners-q
 offset_bounds-winners-q c = omega (arith, (held c.args.store.now c.requires.1).ports)

@@ -21,17 +21,17 @@ use Rattle.bmca.proofs.consume.Goals as goal
 pub loop-q-init : goal.loop-q-init
 loop-q-init c =
     let start = c in
-    (omega arith, (held start.args.store.now start.requires.1).ports, refl, omega arith, refl, refl)
+    ((held start.args.store.now start.requires.1).ports, refl, omega arith, refl, refl)
 
-pub consume_port-here-requires : goal.consume_port-here-requires
-consume_port-here-requires c =
+pub consume_port-gone-requires : goal.consume_port-gone-requires
+consume_port-gone-requires c =
     let l = c.loop-q in
     let start = c in
     let s = start.args.store.now in
     let at = port_at l.q in
     let here : take (at + port_words - at) (drop at l.store) ≡ block s at port_words =
     part-block l.store at port_words
-    ∙ ap (λ (t : List ℕ). block t at port_words) l.invariant.5
+    ∙ ap (λ (t : List ℕ). block t at port_words) l.invariant.4
     ∙ (decided-ports s start.requires.0 start.requires.1 l.q (omega arith)).later l.q (omega arith) (omega arith) in
     rw here (length-block s at port_words (omega arith), (port-held s start.requires.1 l.q (omega arith)).masters)
 
@@ -42,22 +42,21 @@ loop-q-preserved c =
     let s = start.args.store.now in
     let q = l.q in
     let at = port_at q in
-    let call = c.consume_port-here in
+    let call = c.consume_port-gone in
     let below : q < get_or s 0 0 = omega arith in
     let part : List ℕ = take (at + port_words - at) (drop at l.store) in
     let there : part ≡ block (decided_to q s) at port_words =
-    part-block l.store at port_words ∙ ap (λ (t : List ℕ). block t at port_words) l.invariant.5 in
+    part-block l.store at port_words ∙ ap (λ (t : List ℕ). block t at port_words) l.invariant.4 in
     let here : part ≡ block s at port_words =
     there ∙ (decided-ports s start.requires.0 start.requires.1 q (omega arith)).later q (omega arith) (omega arith) in
     let winner : get_or start.args.winners q 0 ≡ winner_place part =
     ap (λ (ws : List ℕ). get_or ws q 0) start.requires.2 ∙ winner_in s q 0 below ∙ ap winner_place (sym here) in
     let back = lent-block decided_port l.store call.new.port at port_words (omega arith) call.auto.port (call.ensures.0 ∙ ap (λ (n : ℕ). consumed_in n part) winner) in (
-      omega arith,
-      l.invariant.1,
-      same_len_mid at (at + port_words - at) l.store call.new.port call.auto.port ∙ l.invariant.2,
+      l.invariant.0,
+      same_len_mid at (at + port_words - at) l.store call.new.port call.auto.port ∙ l.invariant.1,
       omega (arith, call.ensures.2),
-      rw add-one (ap₂ (λ (x y : ℕ). x + y) l.invariant.4 (call.ensures.1 ∙ ap (λ (n : ℕ). gone_in n part) winner ∙ ap gone_port there)),
-      rw add-one (back ∙ ap (λ (t : List ℕ). put t at (decided_port (block t at port_words))) l.invariant.5),
+      rw add-one (ap₂ (λ (x y : ℕ). x + y) l.invariant.3 (call.ensures.1 ∙ ap (λ (n : ℕ). gone_in n part) winner ∙ ap gone_port there)),
+      rw add-one (back ∙ ap (λ (t : List ℕ). put t at (decided_port (block t at port_words))) l.invariant.4),
     )
 
 pub returns : goal.returns
@@ -66,46 +65,7 @@ returns c =
     let l = c.loop-q in
     let s = c.args.store.now in
     let e : l.q ≡ get_or s 0 0 = omega arith in
-    (l.invariant.5 ∙ ap (λ (n : ℕ). decided_to n s) e, l.invariant.4 ∙ ap (λ (n : ℕ). gone_to n s) e)
-
-pub bounds-store-0 : goal.bounds-store-0
-bounds-store-0 c = omega arith
-
-pub overflow_mul-at : goal.overflow_mul-at
-overflow_mul-at c = omega arith
-
-pub overflow_add-at : goal.overflow_add-at
-overflow_add-at c = omega arith
-
-pub overflow_add-at-in-loop-q : goal.overflow_add-at-in-loop-q
-overflow_add-at-in-loop-q c = omega arith
-
-pub offset_bounds-store-at : goal.offset_bounds-store-at
-offset_bounds-store-at c = omega arith
-
-pub slice_bounds-consume_port-count : goal.slice_bounds-consume_port-count
-slice_bounds-consume_port-count c = omega arith
-
-pub slice_bounds-consume_port-start : goal.slice_bounds-consume_port-start
-slice_bounds-consume_port-start c = omega arith
-
-pub slice_bounds-consume_port-end : goal.slice_bounds-consume_port-end
-slice_bounds-consume_port-end c = omega arith
-
-pub offset_bounds-winners-q : goal.offset_bounds-winners-q
-offset_bounds-winners-q c = omega arith
-
-pub bounds-winners-q : goal.bounds-winners-q
-bounds-winners-q c = omega arith
-
-pub overflow_add-gone : goal.overflow_add-gone
-overflow_add-gone c = omega arith
-
-pub overflow_add-q : goal.overflow_add-q
-overflow_add-q c = omega arith
-
-pub loop-q-smaller : goal.loop-q-smaller
-loop-q-smaller c = omega arith
+    (l.invariant.4 ∙ ap (λ (n : ℕ). decided_to n s) e, l.invariant.3 ∙ ap (λ (n : ℕ). gone_to n s) e)
 
 pub shape_of-store : goal.shape_of-store
-shape_of-store c = c.loop-q.invariant.2
+shape_of-store c = c.loop-q.invariant.1

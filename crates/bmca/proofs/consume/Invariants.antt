@@ -1,6 +1,6 @@
 -- `bmca::consume` meets its contract. The loop's invariant: the first ports are decided.
 -- Assumes nothing.
-use Prim.Native.Nat.{◌-◌, ◌*◌, ◌≤◌}
+use Prim.Native.Nat.{◌*◌, ◌≤◌}
 use mathlib.Core.Path.{◌≡◌}
 use lib.ListN.{length}
 use Rattle.history.specs.Rules.{ports_max}
@@ -8,12 +8,8 @@ use Rattle.bmca.specs.Decide.{decided_to, gone_to}
 use Rattle.bmca.proofs.consume.Given as goal
 
 abbrev pub invariant-loop-q : goal.invariant-loop-q
-invariant-loop-q l = (l.q ≤ l.count)
-    × (l.count ≤ ports_max)
+invariant-loop-q l = (l.count ≤ ports_max)
     × (length l.store ≡ length l.initial.store)
     × (l.gone ≤ 8 * l.q)
     × (l.gone ≡ gone_to l.q l.initial.store)
     × (l.store ≡ decided_to l.q l.initial.store)
-
-abbrev pub decreases-loop-q : goal.decreases-loop-q
-decreases-loop-q l = l.count - l.q

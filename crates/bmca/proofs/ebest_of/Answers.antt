@@ -1,7 +1,7 @@
 -- `bmca::ebest_of` meets its contract. The loop's invariant: the one held is Ebest among the ports so far.
 -- Assumes nothing.
 use native.Mathlib.Omega.{arith}
-use Prim.Native.Nat.{ℕ, ◌-◌, ◌<◌}
+use Prim.Native.Nat.{ℕ, ◌<◌}
 use mathlib.Core.List.{List}
 use mathlib.Core.Path.{◌≡◌, refl, sym, ap, ap₂, ◌∙◌}
 use native.Mathlib.Numerals.{add-one}
@@ -20,7 +20,7 @@ use Rattle.bmca.proofs.ebest_of.Goals as goal
 
 pub loop-q-init : goal.loop-q-init
 unfolding ebest_of winner choose
-loop-q-init c = (omega arith, (held c.args.store.now c.requires.1).ports, refl)
+loop-q-init c = ((held c.args.store.now c.requires.1).ports, refl)
 
 pub candidate_at-next-requires : goal.candidate_at-next-requires
 candidate_at-next-requires c =
@@ -35,11 +35,10 @@ loop-q-preserved c =
     let l = c.loop-q in
     let s = c.args.store.now in
     let g = ebest_of (tab l.q (erbest_at s)) in (
-      omega arith,
-      l.invariant.1,
+      l.invariant.0,
       rw add-one
           (c.keep-held.ensures
-          ∙ ap₂ keep_next l.invariant.2 c.candidate_at-next.ensures
+          ∙ ap₂ keep_next l.invariant.1 c.candidate_at-next.ensures
           ∙ keep-shown g (erbest_at s l.q)
           ∙ ap shown (sym (ebest-next l.q (erbest_at s)))),
     )
@@ -50,19 +49,4 @@ returns c =
     let l = c.loop-q in
     let s = c.args.store.now in
     let e : l.q ≡ get_or s 0 0 = omega arith in
-    l.invariant.2 ∙ ap (λ (n : ℕ). shown (ebest_of (tab n (erbest_at s)))) e
-
-pub bounds-store-0 : goal.bounds-store-0
-bounds-store-0 c = omega arith
-
-pub offset_bounds-winners-q : goal.offset_bounds-winners-q
-offset_bounds-winners-q c = omega arith
-
-pub bounds-winners-q : goal.bounds-winners-q
-bounds-winners-q c = omega arith
-
-pub overflow_add-q : goal.overflow_add-q
-overflow_add-q c = omega arith
-
-pub loop-q-smaller : goal.loop-q-smaller
-loop-q-smaller c = omega arith
+    l.invariant.1 ∙ ap (λ (n : ℕ). shown (ebest_of (tab n (erbest_at s)))) e

@@ -1,7 +1,7 @@
 -- `bmca::numbers_of` meets its contract. The loop's invariant: the numbers so far lie over eight of 0, and the bits of the ports to come are left.
 -- Assumes nothing.
 use native.Mathlib.Omega.{arith}
-use Prim.Native.Nat.{ℕ, ◌-◌, ◌%◌, ◌<◌}
+use Prim.Native.Nat.{ℕ, ◌%◌, ◌<◌}
 use mathlib.Core.List.{List, ◌++◌}
 use mathlib.Core.Path.{◌≡◌, refl, ap, ◌∙◌}
 use lib.Dec.{eqb}
@@ -16,7 +16,7 @@ use Rattle.bmca.proofs.Planned.{winner_in, number-at}
 use Rattle.bmca.proofs.numbers_of.Goals as goal
 
 pub loop-q-init : goal.loop-q-init
-loop-q-init c = (omega arith, (held c.args.store.now c.requires.store_words_in_bounds.1).ports, refl, omega arith, refl)
+loop-q-init c = ((held c.args.store.now c.requires.store_words_in_bounds.1).ports, refl, omega arith, refl)
 
 pub candidate_at-port-requires : goal.candidate_at-port-requires
 candidate_at-port-requires c =
@@ -31,12 +31,11 @@ loop-q-preserved c =
     let l = c.loop-q in
     let a = c.args in
     let s = a.store.now in
-    let number = c.number-number.ensures ∙ (λ i. number_by a.own (c.requires.global_value i) (c.candidate_at-port.ensures i) (eqb (l.invariant.3 i % 2) 1)) ∙ number-at s a.own a.listening l.q in (
-      omega arith,
-      l.invariant.1,
-      simp length-set l.invariant.2,
-      halved a.listening l.bits l.q l.invariant.3,
-      over-tab (number_at s a.own a.listening) zeros l.numbers l.q c.number-number.result l.invariant.4 (omega arith) number,
+    let number = c.number.ensures ∙ (λ i. number_by a.own (c.requires.global_value i) (c.candidate_at-port.ensures i) (eqb (l.invariant.2 i % 2) 1)) ∙ number-at s a.own a.listening l.q in (
+      l.invariant.0,
+      simp length-set l.invariant.1,
+      halved a.listening l.bits l.q l.invariant.2,
+      over-tab (number_at s a.own a.listening) zeros l.numbers l.q c.number.result l.invariant.3 (omega arith) number,
     )
 
 pub returns : goal.returns
@@ -46,22 +45,4 @@ returns c =
     let a = c.args in
     let s = a.store.now in
     let e : l.q ≡ get_or s 0 0 = omega arith in
-    l.invariant.4 ∙ ap (λ (n : ℕ). tab n (number_at s a.own a.listening) ++ drop n zeros) e
-
-pub bounds-store-0 : goal.bounds-store-0
-bounds-store-0 c = omega arith
-
-pub offset_bounds-winners-q : goal.offset_bounds-winners-q
-offset_bounds-winners-q c = omega arith
-
-pub bounds-winners-q : goal.bounds-winners-q
-bounds-winners-q c = omega arith
-
-pub bounds-numbers-q : goal.bounds-numbers-q
-bounds-numbers-q c = omega arith
-
-pub overflow_add-q : goal.overflow_add-q
-overflow_add-q c = omega arith
-
-pub loop-q-smaller : goal.loop-q-smaller
-loop-q-smaller c = omega arith
+    l.invariant.3 ∙ ap (λ (n : ℕ). tab n (number_at s a.own a.listening) ++ drop n zeros) e

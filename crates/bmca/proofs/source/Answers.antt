@@ -6,5 +6,5 @@ use Rattle.bmca.proofs.source.Goals as goal
 pub returns-then-of_port : goal.returns-then-of_port
 returns-then-of_port c = rw (sym c.of_port.ensures ∙ c.if-of_port.true) (add-one c.args.q)
 
-pub returns : goal.returns
-returns c = rw (sym c.of_port.ensures ∙ c.if-of_port.false)
+pub returns-else-of_port : goal.returns-else-of_port
+returns-else-of_port c = rw (sym c.of_port.ensures ∙ c.if-of_port.false)

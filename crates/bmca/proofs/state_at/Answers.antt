@@ -11,29 +11,29 @@ use Rattle.bmca.specs.Plan.{ebest_in, erbest_from, source_of}
 use Rattle.bmca.proofs.Planned.{source-there, carried_from}
 use Rattle.bmca.proofs.state_at.Goals as goal
 
-pub returns-then-number-eq0 : goal.returns-then-number-eq0
+pub returns-in-0 : goal.returns-in-0
 unfolding state_by
-returns-then-number-eq0 c =
+returns-in-0 c =
     let a = c.args in
     let s = a.store.now in
-    sym (ap (λ (n : ℕ). state_by n a.own (ebest_in s) (erbest_at s a.q)) c.if-number-eq0.true)
+    sym (ap (λ (n : ℕ). state_by n a.own (ebest_in s) (erbest_at s a.q)) c.in-0.is)
 
-pub returns-then-number-eq1 : goal.returns-then-number-eq1
+pub returns-in-1 : goal.returns-in-1
 unfolding state_by
-returns-then-number-eq1 c =
+returns-in-1 c =
     let a = c.args in
     let s = a.store.now in
-    sym (ap (λ (n : ℕ). state_by n a.own (ebest_in s) (erbest_at s a.q)) c.if-number-eq1.true)
+    sym (ap (λ (n : ℕ). state_by n a.own (ebest_in s) (erbest_at s a.q)) c.in-1.is)
 
-pub returns-then-number-eq2 : goal.returns-then-number-eq2
+pub returns-in-2 : goal.returns-in-2
 unfolding state_by
-returns-then-number-eq2 c =
+returns-in-2 c =
     let a = c.args in
     let s = a.store.now in
-    sym (ap (λ (n : ℕ). state_by n a.own (ebest_in s) (erbest_at s a.q)) c.if-number-eq2.true)
+    sym (ap (λ (n : ℕ). state_by n a.own (ebest_in s) (erbest_at s a.q)) c.in-2.is)
 
-pub source-port-requires : goal.source-port-requires
-source-port-requires c = omega (arith, (held c.args.store.now c.requires.1).ports)
+pub source-requires : goal.source-requires
+source-requires c = omega (arith, (held c.args.store.now c.requires.1).ports)
 
 pub carried_at-requires : goal.carried_at-requires
 carried_at-requires c =
@@ -41,20 +41,20 @@ carried_at-requires c =
     let s = a.store.now in
     let pre = c.requires in
     let n = get_or a.plan.numbers a.q 0 in
-    let port = c.source-port.ensures ∙ ap (λ (b : ℕ). source_of n b a.q) pre.3.0 in
+    let port = c.source.ensures ∙ ap (λ (b : ℕ). source_of n b a.q) pre.3.0 in
     (pre.0, pre.1, pre.3.1, rw port (source-there s n a.q pre.2))
 
-pub returns : goal.returns
-returns c =
+pub returns-in_default : goal.returns-in_default
+returns-in_default c =
     let a = c.args in
     let s = a.store.now in
     let pre = c.requires in
     let n = get_or a.plan.numbers a.q 0 in
-    let port = c.source-port.ensures ∙ ap (λ (b : ℕ). source_of n b a.q) pre.3.0 in
+    let port = c.source.ensures ∙ ap (λ (b : ℕ). source_of n b a.q) pre.3.0 in
     c.carried_at.ensures
     ∙ ap (λ (k : ℕ). carrying_best n (erbest_from s k)) port
     ∙ carried_from s n a.q
-    ∙ sym (state_carries n a.own (ebest_in s) (erbest_at s a.q) c.if-number-eq0.false c.if-number-eq1.false c.if-number-eq2.false)
+    ∙ sym (state_carries n a.own (ebest_in s) (erbest_at s a.q) (λ e. omega arith) (λ e. omega arith) (λ e. omega arith))
 
 pub bounds-plan-q : goal.bounds-plan-q
 bounds-plan-q c = omega (arith, (held c.args.store.now c.requires.1).ports)

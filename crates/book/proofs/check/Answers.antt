@@ -7,10 +7,10 @@ pub returns-then-store-lt-STORE_WORDS : goal.returns-then-store-lt-STORE_WORDS
 unfolding store_refusal
 returns-then-store-lt-STORE_WORDS c = simp (lt-ltb _ _ c.if-store-lt-STORE_WORDS.true)
 
-pub returns-then-sound : goal.returns-then-sound
+pub returns-then-not-sound : goal.returns-then-not-sound
 unfolding store_refusal
-returns-then-sound c = simp (le-ltb _ _ c.if-store-lt-STORE_WORDS.false, ← c.sound.ensures, c.if-sound.true)
+returns-then-not-sound c = simp (le-ltb _ _ c.if-store-lt-STORE_WORDS.false, ← c.sound.ensures, c.if-not-sound.true)
 
 pub returns : goal.returns
 unfolding store_refusal
-returns c = simp (le-ltb _ _ c.if-store-lt-STORE_WORDS.false, ← c.sound.ensures, c.if-sound.false)
+returns c = simp (le-ltb _ _ c.if-store-lt-STORE_WORDS.false, ← c.sound.ensures, c.if-not-sound.false)

@@ -1,23 +1,7 @@
 -- `book::message_follows` meets its contract. Assumes nothing.
 use borrow.Author.Tests.{le-leb, lt-leb}
 use Rattle.history.specs.Sound.{follows}
-use borrow.Author.Rules.{rules}
 use Rattle.book.proofs.message_follows.Goals as goal
-
-pub age_at-requires : goal.age_at-requires
-age_at-requires c = search rules
-
-pub age_at-requires-2 : goal.age_at-requires-2
-age_at-requires-2 c = search rules
-
-pub sequence_at-requires : goal.sequence_at-requires
-sequence_at-requires c = search rules
-
-pub sequence_at-requires-then-age_at : goal.sequence_at-requires-then-age_at
-sequence_at-requires-then-age_at c = search rules
-
-pub in_step-requires : goal.in_step-requires
-in_step-requires c = search rules
 
 pub returns-then-age_at : goal.returns-then-age_at
 unfolding follows

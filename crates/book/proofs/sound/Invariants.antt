@@ -1,5 +1,4 @@
 -- `book::sound` meets its contract. Assumes nothing.
-use Prim.Native.Nat.{◌-◌, ◌≤◌}
 use mathlib.Core.Path.{◌≡◌}
 use mathlib.Core.Bool.{true}
 use Rattle.slot.specs.Blocks.{block}
@@ -9,7 +8,4 @@ use Rattle.book.specs.Rules.{port_sound}
 use Rattle.book.proofs.sound.Given as goal
 
 abbrev pub invariant-loop-q : goal.invariant-loop-q
-invariant-loop-q l = (l.q ≤ l.count) × (all l.q (λ p. port_sound (block l.store 0 head_words) (block l.store (port_at p) port_words)) ≡ true)
-
-abbrev pub decreases-loop-q : goal.decreases-loop-q
-decreases-loop-q l = l.count - l.q
+invariant-loop-q l = all l.q (λ p. port_sound (block l.store 0 head_words) (block l.store (port_at p) port_words)) ≡ true

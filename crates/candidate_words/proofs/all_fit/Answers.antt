@@ -12,18 +12,18 @@ use Rattle.candidate_words.proofs.all_fit.Goals as goal
 pub loop-i-init : goal.loop-i-init
 loop-i-init c =
     let a = c.args in
-    (omega arith, c.requires, fits_all_lem a.n a.s.now)
+    fits_all_lem a.n a.s.now
 
-pub returns-then-not-fits : goal.returns-then-not-fits
-returns-then-not-fits c =
+pub returns-then-not-within : goal.returns-then-not-within
+returns-then-not-within c =
     let a = c.args in
     let ws = a.s.now in
     let i = c.loop-i.i in
     let inv = c.loop-i.invariant in
     let lt : i < a.n = omega arith in
     let twelve : i * 12 + 12 - i * 12 ≡ 12 = omega arith in
-    let one : c.fits.result ≡ fits_candidate (take 12 (drop (i * 12) ws)) = c.fits.ensures ∙ ap (λ (k : ℕ). fits_candidate (take k (drop (i * 12) ws))) twelve in
-    sym (inv.2 ∙ fits_next a.n i ws lt ∙ ap (λ (t : Bool). t && rest_fits a.n (i + 1) ws) (sym one ∙ c.if-not-fits.true))
+    let one : c.within.result ≡ fits_candidate (take 12 (drop (i * 12) ws)) = c.within.ensures ∙ ap (λ (k : ℕ). fits_candidate (take k (drop (i * 12) ws))) twelve in
+    sym (inv ∙ fits_next a.n i ws lt ∙ ap (λ (t : Bool). t && rest_fits a.n (i + 1) ws) (sym one ∙ c.if-not-within.true))
 
 pub loop-i-preserved : goal.loop-i-preserved
 loop-i-preserved c =
@@ -33,8 +33,8 @@ loop-i-preserved c =
     let inv = c.loop-i.invariant in
     let lt : i < a.n = omega arith in
     let twelve : i * 12 + 12 - i * 12 ≡ 12 = omega arith in
-    let one : c.fits.result ≡ fits_candidate (take 12 (drop (i * 12) ws)) = c.fits.ensures ∙ ap (λ (k : ℕ). fits_candidate (take k (drop (i * 12) ws))) twelve in
-    (omega arith, inv.1, inv.2 ∙ fits_next a.n i ws lt ∙ ap (λ (t : Bool). t && rest_fits a.n (i + 1) ws) (sym one ∙ c.if-not-fits.false))
+    let one : c.within.result ≡ fits_candidate (take 12 (drop (i * 12) ws)) = c.within.ensures ∙ ap (λ (k : ℕ). fits_candidate (take k (drop (i * 12) ws))) twelve in
+    inv ∙ fits_next a.n i ws lt ∙ ap (λ (t : Bool). t && rest_fits a.n (i + 1) ws) (sym one ∙ c.if-not-within.false)
 
 pub returns : goal.returns
 returns c =
@@ -42,4 +42,4 @@ returns c =
     let i = c.loop-i.i in
     let inv = c.loop-i.invariant in
     let le : a.n ≤ i = omega arith in
-    sym (inv.2 ∙ fits-end a.n i a.s.now le)
+    sym (inv ∙ fits-end a.n i a.s.now le)

@@ -30,8 +30,8 @@ returns-then-stays c =
     (keep-held _ _ _ (sym c.offers.ensures ∙ c.if-not-offers.false) c.if-count-held.false
     (sym (rw (part-block, part-block) at c.stays.ensures) ∙ c.if-stays.true))
 
-pub returns : goal.returns
-returns c =
+pub returns-else-stays : goal.returns-else-stays
+returns-else-stays c =
     sym
     (keep-next _ _ _ (sym c.offers.ensures ∙ c.if-not-offers.false) c.if-count-held.false
     (sym (rw (part-block, part-block) at c.stays.ensures) ∙ c.if-stays.false))

@@ -1,5 +1,4 @@
 -- `erbest::port_winner` meets its contract. Assumes nothing.
-use Prim.Native.Nat.{◌≤◌, ◌-◌}
 use mathlib.Core.Path.{◌≡◌}
 use lib.ListN.{get_or}
 use Rattle.offers.specs.Offers.{offers_at, down_from}
@@ -7,7 +6,4 @@ use Rattle.erbest.specs.Place.{Offered, stays_in, walk, winner_place}
 use Rattle.erbest.proofs.port_winner.Given as goal
 
 abbrev pub invariant-loop-i : goal.invariant-loop-i
-invariant-loop-i l = (l.i ≤ get_or l.port 1 0) × Offered l.port l.held × (winner_place l.port ≡ walk (stays_in l.port) (get_or l.port 1 0) l.held (down_from l.i (offers_at l.port)))
-
-abbrev pub decreases-loop-i : goal.decreases-loop-i
-decreases-loop-i l = l.i
+invariant-loop-i l = Offered l.port l.held × (winner_place l.port ≡ walk (stays_in l.port) (get_or l.port 1 0) l.held (down_from l.i (offers_at l.port)))

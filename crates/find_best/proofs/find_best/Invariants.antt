@@ -1,14 +1,8 @@
 -- The loop of `find_best::find_best`: keeping on with what is left of the list leads to the winner of the whole list.
 -- Assumes nothing.
-use Rattle.std.proofs.Common.{length, drop, ◌-◌, ◌≡◌, ◌≤◌}
-use Rattle.choice.specs.Candidate.{best_of, winner, itself, keep_all}
+use Rattle.std.proofs.Common.{drop, ◌≡◌}
+use Rattle.choice.specs.Candidate.{winner, itself, keep_all}
 use Rattle.find_best.proofs.find_best.Given as goal
 
-abbrev pub invariant-loop-i : goal.invariant-loop-i
-invariant-loop-i l = record {
-  within : l.i ≤ length l.cands;
-  so : keep_all l.held (drop l.i l.cands) ≡ best_of (winner itself l.cands);
-}
-
-abbrev pub decreases-loop-i : goal.decreases-loop-i
-decreases-loop-i l = length l.cands - l.i
+abbrev pub invariant-loop-c : goal.invariant-loop-c
+invariant-loop-c l = keep_all l.held (drop l.c-index l.cands) ≡ winner itself l.fn.cands

@@ -1,25 +1,28 @@
 -- `foreign_master::register_at` meets its contract. Assumes nothing.
-use mathlib.Core.Path.{◌≡◌, sym, ap, ◌∙◌}
-use Rattle.refusal.specs.Refusal.{refusal_in}
+use mathlib.Core.Path.{sym, ap, ◌∙◌}
+use Rattle.std.specs.Prelude.{Ok}
+use Rattle.std.proofs.lemmas.Result.{err_from_is_err_and}
 use Rattle.admission.proofs.StoreView.{room-there}
-use Rattle.foreign_master.specs.declared.Answer.TheVariants.{Done}
 use Rattle.foreign_master.specs.Calls.{held_of}
 use Rattle.foreign_master.specs.Steps.{put_out}
-use Rattle.foreign_master.proofs.Steps.{taking-refused, taking-done}
+use Rattle.foreign_master.proofs.Steps.{taking-turned, taking-done}
 use Rattle.foreign_master.proofs.register_at.Goals as goal
 
-pub returns-then-n-ne0 : goal.returns-then-n-ne0
-returns-then-n-ne0 c = let a = c.args in
-    taking-refused a.store.now a.q a.announce c.refusal-n.result c.refusal-n.ensures c.if-n-ne0.true
+pub returns-in_err-refusal : goal.returns-in_err-refusal
+returns-in_err-refusal c =
+    let a = c.args in
+    let p = err_from_is_err_and c.from_residual.result c.from_residual.ensures.1 in
+    rw (p.1, p.2) (taking-turned a.store.now a.q a.announce _ c.in_err-refusal.ensures)
 
-pub register_in-evicted-requires : goal.register_in-evicted-requires
-register_in-evicted-requires c = let d = c in
-    let done : refusal_in d.args.store.now d.args.q (held_of d.args.announce) ≡ 0 = sym c.refusal-n.ensures ∙ c.if-n-ne0.false in
-    record { store_words_in_bounds = d.requires.store_words_in_bounds; m_bound = (room-there d.args.store.now d.requires.store_words_in_bounds.0 d.requires.store_words_in_bounds.1 d.args.q d.requires.store_words_in_bounds.2 (held_of d.args.announce) done, d.requires.narrow) }
+pub register_in-evicted-requires-clause-m_bound : goal.register_in-evicted-requires-clause-m_bound
+register_in-evicted-requires-clause-m_bound c =
+    let a = c.args in
+    let b = c.requires.store_words_in_bounds in
+    (room-there a.store.now b.0.0 b.0.1 a.q b.1 (held_of a.announce) (sym c.in_ok-refusal.ensures), c.requires.narrow)
 
 pub returns : goal.returns
-returns c = let a = c.args in
-    let r = c.refusal-n in
+returns c =
+    let a = c.args in
     let w = c.register_in-evicted.ensures in
-    let t = taking-done a.store.now a.q a.announce (sym r.ensures ∙ c.if-n-ne0.false) in
-    (ap (λ n. Done (put_out n)) w.0 ∙ t.0, w.1 ∙ t.1)
+    let t = taking-done a.store.now a.q a.announce (sym c.in_ok-refusal.ensures) in
+    (ap (λ n. Ok (put_out n)) w.0 ∙ t.0, w.1 ∙ t.1)

@@ -8,22 +8,22 @@ use Rattle.frame_writer.specs.Frame.{fits_of, with_frame}
 use Rattle.frame_writer.specs.Laws.{fits-size}
 use Rattle.frame_writer.proofs.write_frame.Goals as goal
 
-pub returns-then-not-fits : goal.returns-then-not-fits
-returns-then-not-fits c =
+pub returns-then-not-fits_wire : goal.returns-then-not-fits_wire
+returns-then-not-fits_wire c =
     let a = c.args in
-    wrote_15 (fits_of a.a a.tlvs.now) (length a.tlvs.now + 64) a.buffer.now _ (sym c.fits_wire-fits.ensures ∙ c.if-not-fits.true)
+    wrote_15 (fits_of a.a a.tlvs.now) (length a.tlvs.now + 64) a.buffer.now _ (sym c.if-not-fits_wire.ensures)
 
 pub returns-then-buffer-tlvs : goal.returns-then-buffer-tlvs
 returns-then-buffer-tlvs c =
     let a = c.args in
-    wrote_1 (fits_of a.a a.tlvs.now) (length a.tlvs.now + 64) a.buffer.now _ (sym c.fits_wire-fits.ensures ∙ c.if-not-fits.false) c.if-buffer-tlvs.true
+    wrote_1 (fits_of a.a a.tlvs.now) (length a.tlvs.now + 64) a.buffer.now _ (sym c.if-not-fits_wire.ensures) c.if-buffer-tlvs.true
 
 pub put_frame-requires : goal.put_frame-requires
-put_frame-requires c = (c.if-buffer-tlvs.false, fits-size _ _ (sym c.fits_wire-fits.ensures ∙ c.if-not-fits.false))
+put_frame-requires c = (c.if-buffer-tlvs.false, fits-size _ _ (sym c.if-not-fits_wire.ensures))
 
 pub returns : goal.returns
 returns c =
     let a = c.args in
     let w =
-    wrote_0 (fits_of a.a a.tlvs.now) (length a.tlvs.now + 64) a.buffer.now (with_frame a.buffer.now a.a a.tlvs.now) (sym c.fits_wire-fits.ensures ∙ c.if-not-fits.false) c.if-buffer-tlvs.false in
+    wrote_0 (fits_of a.a a.tlvs.now) (length a.tlvs.now + 64) a.buffer.now (with_frame a.buffer.now a.a a.tlvs.now) (sym c.if-not-fits_wire.ensures) c.if-buffer-tlvs.false in
     (w.0, c.put_frame.ensures ∙ w.1)

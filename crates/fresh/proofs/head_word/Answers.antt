@@ -1,32 +1,26 @@
 -- `fresh::head_word` meets its contract. Assumes nothing.
-use borrow.Author.Tests.{eq-eqb, ne_eqb}
+use native.Mathlib.Omega.{arith}
+use borrow.Author.Tests.{ne_eqb}
 use Rattle.fresh.specs.Fresh.{head_word}
 use Rattle.fresh.proofs.head_word.Goals as goal
 
-pub returns-then-w-eq0 : goal.returns-then-w-eq0
+pub returns-in-0 : goal.returns-in-0
 unfolding head_word
-returns-then-w-eq0 c = simp (eq-eqb _ _ c.if-w-eq0.true)
+returns-in-0 c = simp c.in-0.is
 
-pub returns-then-w-eq1 : goal.returns-then-w-eq1
+pub returns-in-1 : goal.returns-in-1
 unfolding head_word
-returns-then-w-eq1 c = simp (ne_eqb _ _ c.if-w-eq0.false, eq-eqb _ _ c.if-w-eq1.true)
+returns-in-1 c = simp c.in-1.is
 
-pub returns-then-w-eq2 : goal.returns-then-w-eq2
+pub returns-in-2 : goal.returns-in-2
 unfolding head_word
-returns-then-w-eq2 c =
-    simp (ne_eqb _ _ c.if-w-eq0.false, ne_eqb _ _ c.if-w-eq1.false, eq-eqb _ _ c.if-w-eq2.true) c.rule_word.ensures
+returns-in-2 c = simp c.in-2.is c.rule_word.ensures
 
-pub returns-then-w-eq3 : goal.returns-then-w-eq3
+pub returns-in-3 : goal.returns-in-3
 unfolding head_word
-returns-then-w-eq3 c =
-    simp (ne_eqb _ _ c.if-w-eq0.false, ne_eqb _ _ c.if-w-eq1.false, ne_eqb _ _ c.if-w-eq2.false, eq-eqb _ _ c.if-w-eq3.true)
+returns-in-3 c = simp c.in-3.is
 
-pub returns : goal.returns
+pub returns-in_default : goal.returns-in_default
 unfolding head_word
-returns c =
-    simp (
-      ne_eqb _ _ c.if-w-eq0.false,
-      ne_eqb _ _ c.if-w-eq1.false,
-      ne_eqb _ _ c.if-w-eq2.false,
-      ne_eqb _ _ c.if-w-eq3.false,
-    ) c.word_or_zero.ensures
+returns-in_default c =
+    simp (ne_eqb c.args.w 0 (λ e. omega arith), ne_eqb c.args.w 1 (λ e. omega arith), ne_eqb c.args.w 2 (λ e. omega arith), ne_eqb c.args.w 3 (λ e. omega arith)) c.word_or_zero.ensures

@@ -1,54 +1,42 @@
 -- `fresh::startable` meets its contract. Assumes nothing.
 use native.Mathlib.Omega.{arith}
-use borrow.Author.Tests.{lt-leb, le-leb}
-use Prim.Native.Nat.{◌-◌}
-use mathlib.Core.Path.{◌≡◌, refl, sym, ◌∙◌}
-use mathlib.Core.Bool.{true, and-false}
-use lib.ListN.{length, get_or}
+use borrow.Author.Rules.{rules}
+use borrow.Author.Tests.{tests, lt-leb, le-leb}
+use Prim.Native.Nat.{ℕ, zero, suc}
+use mathlib.Core.Path.{◌≡◌, refl, sym, ap, ◌∙◌}
+use mathlib.Core.Bool.{Bool, not}
+use lib.Dec.{leb, eqb, eqb-suc-zero}
+use lib.ListN.{length}
+use Rattle.std.proofs.lemmas.Iterator.{YieldsList-from_slice}
+use Rattle.std.proofs.lemmas.Iterator.Search.{all_from_yields_List}
 use Rattle.history.specs.Rules.{interval_right}
 use Rattle.history.specs.Sound.{startable}
-use Rattle.book.specs.Below.{all-fails, all_more}
-use Rattle.fresh.specs.Words.{every-words}
+use Rattle.fresh.specs.Words.{every-all}
+use Rattle.fresh.proofs.startable.Goals.{then-is_empty-via-then-is_empty, then-is_empty-via-else-is_empty+then-intervals-gt-PORTS, then-is_empty-via-else-is_empty+else-intervals-gt-PORTS+then-listed-gt-LISTED}
 use Rattle.fresh.proofs.startable.Goals as goal
 
-pub returns-then-intervals-lt1 : goal.returns-then-intervals-lt1
+-- a list with a word is not empty
+some : (n : ℕ) → leb 1 n ≡ not (eqb n 0)
+some zero = refl
+some (suc n) = le-leb 1 (suc n) (omega arith) ∙ sym (ap not (eqb-suc-zero n))
+
+some-in : (n : ℕ) (b : Bool) → b ≡ eqb n 0 → leb 1 n ≡ not b
+some-in n b e = some n ∙ ap not (sym e)
+
+pub returns-then-is_empty : goal.returns-then-is_empty
 unfolding startable
-returns-then-intervals-lt1 c = simp (lt-leb _ _ c.if-intervals-lt1.true)
-
-pub returns-then-intervals-gt-PORTS : goal.returns-then-intervals-gt-PORTS
-unfolding startable
-returns-then-intervals-gt-PORTS c = simp (le-leb _ _ c.if-intervals-lt1.false, lt-leb _ _ c.if-intervals-gt-PORTS.true)
-
-pub returns-then-listed-gt-LISTED : goal.returns-then-listed-gt-LISTED
-unfolding startable
-returns-then-listed-gt-LISTED c = simp (le-leb _ _ c.if-intervals-lt1.false, le-leb _ _ c.if-intervals-gt-PORTS.false, lt-leb _ _ c.if-listed-gt-LISTED.true)
-
-pub loop-q-init : goal.loop-q-init
-loop-q-init c = (omega arith, refl)
-
-pub returns-then-not-interval_right : goal.returns-then-not-interval_right
-unfolding startable
-returns-then-not-interval_right c =
-    let ns = c.args.intervals.now in
-    let f = c.interval_right in
-    simp (
-      every-words interval_right ns,
-      all-fails (λ k. interval_right (get_or ns k 0)) (length ns) c.loop-q.q (omega arith)
-          (sym f.ensures ∙ c.if-not-interval_right.true),
-      and-false,
-    )
-
-pub loop-q-preserved : goal.loop-q-preserved
-loop-q-preserved c =
-    let ns = c.args.intervals.now in
-    let l = c.loop-q in
-    let f = c.interval_right in
-    (omega arith, all_more (λ k. interval_right (get_or ns k 0)) l.q l.invariant.1 (sym f.ensures ∙ c.if-not-interval_right.false))
+returns-then-is_empty c =
+    let one = some-in (length c.args.intervals.now) c.is_empty.result c.is_empty.ensures in
+    elim c.then-is_empty.branch [
+      | then-is_empty-via-then-is_empty w ↦ simp (one, w.if-is_empty.true)
+      | then-is_empty-via-else-is_empty+then-intervals-gt-PORTS w ↦ simp (one, w.if-is_empty.false, lt-leb _ _ w.if-intervals-gt-PORTS.true)
+      | then-is_empty-via-else-is_empty+else-intervals-gt-PORTS+then-listed-gt-LISTED w ↦ simp (one, w.if-is_empty.false, le-leb _ _ w.if-intervals-gt-PORTS.false, lt-leb _ _ w.if-listed-gt-LISTED.true)
+    ]
 
 pub returns : goal.returns
 unfolding startable
 returns c =
     let ns = c.args.intervals.now in
-    let e : c.loop-q.q ≡ length ns = omega arith in
-    simp (le-leb _ _ c.if-intervals-lt1.false, le-leb _ _ c.if-intervals-gt-PORTS.false, le-leb _ _ c.if-listed-gt-LISTED.false, every-words interval_right ns)
-    (sym (rw e at c.loop-q.invariant.1))
+    let all = all_from_yields_List interval_right _ _ c.all.result c.all.ensures.ran (YieldsList-from_slice ns cc) (λ x b q k. search (rules, tests)) in
+    simp (some-in (length ns) c.is_empty.result c.is_empty.ensures, c.if-is_empty.false, le-leb _ _ c.if-intervals-gt-PORTS.false, le-leb _ _ c.if-listed-gt-LISTED.false)
+    (all ∙ every-all interval_right ns)

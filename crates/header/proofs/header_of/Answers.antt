@@ -14,5 +14,5 @@ returns c =
     let f = c.ranges in
     ap₂
     (λ (x y : ℤ). header_with a.sdo_type a.versions a.domain a.sdo_low a.flags6 a.flags7 x a.source a.sequence y)
-    (kept w64 a.correction f.correction c.i64_of.ensures)
-    (kept w8 a.interval f.interval c.i8_of.ensures)
+    (kept w64 a.correction f.correction c.cast_signed.ensures)
+    (kept w8 a.interval f.interval c.cast_signed-2.ensures)

@@ -1,5 +1,4 @@
 -- `hex_line::decode_pairs` meets its contract: the pairs that are left lead, from any turn, to the same bytes. Assumes nothing.
-use Prim.Native.Nat.{◌-◌}
 use native.Mathlib.Omega.{arith}
 use lib.ListN.{length-set}
 use Rattle.hex_line.proofs.HexLaws.{at-end, pair, onward}
@@ -14,8 +13,6 @@ loop-i-preserved c =
       rw (d.ensures.0, e.ensures.0) (onward l.out l.i _ _ _ _ l.invariant.0 p.0),
       omega (arith, p.1),
       simp length-set l.invariant.2,
-      omega arith,
-      omega arith,
       omega arith,
     )
 

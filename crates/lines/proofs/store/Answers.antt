@@ -1,16 +1,11 @@
--- `lines::store` meets its contract: what is left of the piece leads, from any turn, to the same answer. Assumes nothing.
-use mathlib.Core.Path.{◌∙◌}
-use native.Mathlib.Omega.{arith}
-use lib.ListN.{length-set}
-use Rattle.lines.proofs.Turns.{kept-one}
+-- `lines::store` meets its contract: what was copied is the run that leads to the same answer. Assumes nothing.
+use Rattle.std.proofs.Common.{◌≡◌, ◌+◌, ◌-◌, arith}
+use Rattle.lines.proofs.Turns.{kept-copy}
 use Rattle.lines.proofs.store.Goals as goal
 
-pub loop-at-preserved : goal.loop-at-preserved
-loop-at-preserved c =
-    let l = c.loop-at in (
-      kept-one l.buffer l.kept _ l.at (omega arith) (c.requires.3 l.at (omega arith) (omega arith)) (omega arith) ∙ l.invariant.0,
-      simp length-set l.invariant.1,
-      omega arith,
-      omega arith,
-      omega arith,
-    )
+pub returns : goal.returns
+returns c =
+    let a = c.args in
+    let e : a.count + (a.end - a.from) - a.count ≡ a.end - a.from = omega arith in
+    let r = c.requires in
+    rw (e, c.copy_from_slice.ensures.after) (kept-copy a.buffer.now a.piece.now a.count a.from a.end r.0 r.1 r.2 r.3)

@@ -13,9 +13,7 @@ use Rattle.log_answer.specs.Steps.{states-next, states-last}
 use Rattle.log_answer.proofs.put_ports.Goals as goal
 
 pub loop-i-init : goal.loop-i-init
-loop-i-init c =
-    let l : length c.args.answers ≡ 8 = search rules in
-    (refl, refl, l, omega arith)
+loop-i-init c = (refl, refl)
 
 pub loop-i-preserved : goal.loop-i-preserved
 loop-i-preserved c =
@@ -25,14 +23,12 @@ loop-i-preserved c =
     let h : l.i < ports = omega arith in
     let p = c.put_hex.ensures in
     let x = hex_of c.number.result in
-    let n = c.number.ensures in
-    let k : ports ≤ length xs = omega (arith, l.invariant.2) in (
-      ap (λ (o : List ℕ). sets o (2 + (l.i + 1) * 2) (states_text (drop (l.i + 1) (take ports xs)))) (p ∙ ap (λ (x : ℕ). sets l.out (2 + l.i * 2) (hex_of x)) n)
+    let size : length xs ≡ 8 = search rules in
+    let k : ports ≤ length xs = omega (arith, size) in (
+      ap (λ (o : List ℕ). sets o (2 + (l.i + 1) * 2) (states_text (drop (l.i + 1) (take ports xs)))) (p ∙ ap (λ (x : ℕ). sets l.out (2 + l.i * 2) (hex_of x)) c.number.ensures)
           ∙ states-next l.out xs ports l.i _ h k
           ∙ l.invariant.0,
       ap length p ∙ length-sets l.out (2 + l.i * 2) x ∙ l.invariant.1,
-      l.invariant.2,
-      omega arith,
     )
 
 pub returns : goal.returns
@@ -40,5 +36,7 @@ returns c =
     let l = c.loop-i in
     let xs = c.args.answers in
     let ports = c.args.ports in
-    let e : length (take ports xs) ≤ l.i = omega (arith, length-take-le ports xs (omega (arith, l.invariant.2))) in
-    (sym (states-last l.out (2 + l.i * 2)) ∙ ap (λ (ys : List PortAnswer). sets l.out (2 + l.i * 2) (states_text ys)) (sym (drop_of_length-le (take ports xs) e)) ∙ l.invariant.0, l.invariant.2)
+    let size : length xs ≡ 8 = search rules in
+    let n : l.i ≡ ports = omega arith in
+    let e : length (take ports xs) ≤ ports = omega (arith, length-take-le ports xs (omega (arith, size))) in
+    (sym (states-last l.out (2 + ports * 2)) ∙ ap (λ (ys : List PortAnswer). sets l.out (2 + ports * 2) (states_text ys)) (sym (drop_of_length-le (take ports xs) e)) ∙ rw n at l.invariant.0, size)

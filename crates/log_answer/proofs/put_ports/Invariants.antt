@@ -1,5 +1,5 @@
 -- `log_answer::put_ports` meets its contract: what is left leads, from any turn, to the same text. Assumes nothing.
-use Prim.Native.Nat.{◌+◌, ◌-◌, ◌*◌, ◌≤◌}
+use Prim.Native.Nat.{◌+◌, ◌*◌}
 use mathlib.Core.Path.{◌≡◌}
 use lib.ListN.{length, take, drop}
 use lib.Seq.{sets}
@@ -9,8 +9,3 @@ use Rattle.log_answer.proofs.put_ports.Given as goal
 abbrev pub invariant-loop-i : goal.invariant-loop-i
 invariant-loop-i l = (sets l.out (2 + l.i * 2) (states_text (drop l.i (take l.ports l.answers))) ≡ sets l.initial.out 2 (states_text (take l.ports l.answers)))
     × (length l.out ≡ length l.initial.out)
-    × (length l.answers ≡ 8)
-    × (l.i ≤ l.ports)
-
-abbrev pub decreases-loop-i : goal.decreases-loop-i
-decreases-loop-i l = l.ports - l.i

@@ -1,7 +1,7 @@
 -- `log_call::frame_line` meets its contract. Assumes nothing.
 use mathlib.Core.Path.{refl, ap, ◌∙◌}
 use native.Mathlib.Omega.{arith}
-use Rattle.foreign_master.specs.Calls.{answer_of}
+use Rattle.refused.specs.Refusal.{answer_of}
 use Rattle.log_answer.specs.Steps.{shapeless_told}
 use Rattle.log_call.specs.Steps.{frame_short, frame_told}
 use Rattle.log_call.proofs.frame_line.Goals as goal
@@ -15,6 +15,6 @@ pub returns : goal.returns
 returns c =
     let b = c in
     let e = b.register_checked-answer.ensures in
-    let w = b.wide-port.ensures in
+    let w = b.from-port.ensures in
     let a = b.args in
-    frame_told a.setup _ _ _ _ _ _ _ c.told-2.ensures _ (omega arith) w.0 (c.number.ensures ∙ ap (λ x. (answer_of x).0) e.value) e.store_after
+    frame_told a.setup _ _ _ _ _ _ _ c.told-2.ensures _ (omega arith) w (c.number.ensures ∙ ap (λ x. (answer_of x).0) e.value) e.store_after

@@ -1,6 +1,6 @@
 -- `log_call::step_line` meets its contract. Assumes nothing.
 use mathlib.Core.Path.{refl, ap, ◌∙◌}
-use Rattle.foreign_master.specs.Calls.{answer_of}
+use Rattle.refused.specs.Refusal.{answer_of}
 use Rattle.log_answer.specs.Steps.{shapeless_told}
 use Rattle.log_call.specs.Steps.{step_other, step-told}
 use Rattle.log_call.proofs.step_line.Goals as goal

@@ -1,19 +1,16 @@
--- `log_decision::above` meets its contract: after each turn the byte is divided by a power of two. Assumes nothing.
-use Prim.Native.Nat.{ℕ, ◌/◌, ◌^◌}
-use mathlib.Core.Path.{◌≡◌, sym, ap, ◌∙◌}
-use native.Mathlib.Omega.{arith}
-use native.Mathlib.Nat.{div-one}
-use Rattle.states.proofs.Steps.{halved}
+-- `log_decision::above` meets its contract: eight bits or more leave nothing of a byte. Assumes nothing.
+use Rattle.std.proofs.Common.{◌≡◌, ℕ, ◌/◌, ◌^◌, ◌<◌, ◌≤◌, Bool, true, false, refl, sym, ap, arith, ltb, ltb-false, ◌∙◌}
+use Rattle.std.specs.Prelude.{if◌then◌else◌}
+use Rattle.std.proofs.Math.Nat.{div-eq_of_lt, pow-le-pow_right}
 use Rattle.log_decision.proofs.above.Goals as goal
 
-pub loop-i-init : goal.loop-i-init
-loop-i-init c = (sym (div-one _), omega arith)
-
-pub loop-i-preserved : goal.loop-i-preserved
-loop-i-preserved c = let l = c.loop-i in (halved _ _ l.i l.invariant.0, omega arith)
+shifted : (b n : ℕ) → b < 256 → (t : Bool) → ltb n 8 ≡ t → (if t then b / 2 ^ n else 0) ≡ b / 2 ^ n
+shifted b n h true e = refl
+shifted b n h false e =
+    let p : 2 ^ 8 ≤ 2 ^ n = pow-le-pow_right {n = 2} (omega arith) (ltb-false n 8 e) in
+    sym (div-eq_of_lt (omega (arith, h, p)))
 
 pub returns : goal.returns
 returns c =
-    let l = c.loop-i in
-    let e : l.i ≡ c.args.count = omega arith in
-    l.invariant.0 ∙ ap (λ (n : ℕ). c.args.listening / 2 ^ n) e
+    let a = c.args in
+    c.unbounded_shr.ensures ∙ ap (λ (n : ℕ). if ltb n 8 then a.listening / 2 ^ n else 0) c.from.ensures ∙ shifted a.listening a.count c.ranges.listening.fits (ltb a.count 8) refl

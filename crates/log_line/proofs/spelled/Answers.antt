@@ -13,27 +13,27 @@ use Rattle.log_line.proofs.spelled.Goals as goal
 pub slice_bounds-answer-end : goal.slice_bounds-answer-end
 slice_bounds-answer-end c =
     let d = c.decode in
-    omega (arith, decoded_fits _ _ _ (sym d.ensures.0 ∙ c.in-Bytes.is), d.auto)
+    omega (arith, decoded_fits _ _ _ (sym d.ensures.0 ∙ c.in-Some.is), d.auto)
 
-pub slice_bounds-answer-end-in-Bytes : goal.slice_bounds-answer-end-in-Bytes
-slice_bounds-answer-end-in-Bytes c =
+pub slice_bounds-answer-end-in-Some : goal.slice_bounds-answer-end-in-Some
+slice_bounds-answer-end-in-Some c =
     let d = c.decode in
-    sym (length-take-le _ _ (omega (arith, decoded_fits _ _ _ (sym d.ensures.0 ∙ c.in-Bytes.is), d.auto)))
+    sym (length-take-le _ _ (omega (arith, decoded_fits _ _ _ (sym d.ensures.0 ∙ c.in-Some.is), d.auto)))
 
-pub returns-in-Bytes : goal.returns-in-Bytes
-returns-in-Bytes c =
+pub returns-in-Some : goal.returns-in-Some
+returns-in-Some c =
     let b = c in
     let e = b.decode.ensures in
     let a = b.args in
     let room = b.requires.1 in
-    let good = sym c.in-Bytes.is ∙ e.0 ∙ ap (decoded_of a.line.now) room in
-    let bytes = ap (take c.in-Bytes.n) e.1 ∙ good_bytes a.line.now a.bytes.now _ room good in
+    let good = sym c.in-Some.is ∙ e.0 ∙ ap (decoded_of a.line.now) room in
+    let bytes = ap (take c.in-Some.n) e.1 ∙ good_bytes a.line.now a.bytes.now _ room good in
     answers_by _ _ (ap (asked_of a.setup) bytes ∙ good_asked a.setup a.line.now _ good) _ _ _ _ _ _ c.answer.ensures
 
-pub returns-in-Bad : goal.returns-in-Bad
-returns-in-Bad c =
+pub returns-in-None : goal.returns-in-None
+returns-in-None c =
     let b = c in
     let a = b.args in
     let room = b.requires.1 in
-    let bad = sym c.in-Bad.is ∙ b.decode.ensures.0 ∙ ap (decoded_of a.line.now) room in
+    let bad = sym c.in-None.is ∙ b.decode.ensures.0 ∙ ap (decoded_of a.line.now) room in
     shapeless_told a.setup _ _ _ _ _ _ c.told.ensures _ (bad-asked a.setup a.line.now bad) refl refl

@@ -7,13 +7,13 @@ use Rattle.log_setup.specs.Steps.{interval-more, interval-none}
 use Rattle.log_setup.proofs.read_intervals.Goals as goal
 
 pub loop-i-init : goal.loop-i-init
-loop-i-init c = (interval-none _ c.args.intervals.now, refl, omega arith)
+loop-i-init c = (interval-none _ c.args.intervals.now, refl)
 
 pub loop-i-preserved : goal.loop-i-preserved
 loop-i-preserved c =
     let l = c.loop-i in
     let x = c.u64_at in
-    (ap (λ n. take (l.i + 1) (set l.intervals l.i n)) x.ensures ∙ interval-more _ _ l.i (omega arith) l.invariant.0, simp length-set l.invariant.1, omega arith)
+    (ap (λ n. take (l.i + 1) (set l.intervals l.i n)) x.ensures ∙ interval-more _ _ l.i (omega arith) l.invariant.0, simp length-set l.invariant.1)
 
 pub returns : goal.returns
 returns c =

@@ -17,7 +17,7 @@ unfolding refusal_at
 returns-then-source-head c = simp (← c.same_port.ensures, c.if-same_port.false, ← c.acceptable.ensures, c.if-not-acceptable.false, eq-eqb _ _ c.if-source-head.true)
 
 pub in_order-requires : goal.in_order-requires
-in_order-requires c = let a = c in record { port_len = (a.requires.head_len.2, a.requires.held_port.masters); bound = λ l. (held-master a.args.head.now a.args.port.now c.find_master-place.result (a.requires.held_port.master c.find_master-place.result l)).some }
+in_order-requires c = let a = c in record { port_len = (a.requires.head_len.1, a.requires.held_port.masters); bound = λ l. (held-master a.args.head.now a.args.port.now c.find_master-place.result (a.requires.held_port.master c.find_master-place.result l)).some }
 
 pub returns-then-not-in_order : goal.returns-then-not-in_order
 unfolding refusal_at

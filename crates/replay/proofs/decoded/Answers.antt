@@ -3,5 +3,5 @@ use Rattle.std.proofs.Common.{sym}
 use Rattle.hex_line.proofs.HexLaws.{decoded_fits}
 use Rattle.replay.proofs.decoded.Goals as goal
 
-pub returns-in-Bytes : goal.returns-in-Bytes
-returns-in-Bytes c = decoded_fits _ _ _ (sym c.in-Bytes.ensures.0)
+pub returns-in-Some : goal.returns-in-Some
+returns-in-Some c = decoded_fits _ _ _ (sym c.in-Some.ensures.0)

@@ -3,5 +3,5 @@ use Rattle.std.proofs.Common.{sym, ◌∙◌, arith}
 use Rattle.tlv_builder.proofs.BuilderLaws.{added_within}
 use Rattle.replay_messages.proofs.add_entry.Goals as goal
 
-pub returns-in-Done : goal.returns-in-Done
-returns-in-Done c = omega (arith, added_within _ _ _ _ (sym c.add.ensures.0 ∙ c.in-Done.is))
+pub returns-in-Ok : goal.returns-in-Ok
+returns-in-Ok c = omega (arith, added_within _ _ _ _ (sym c.add.ensures.0 ∙ c.in-Ok.is))

@@ -3,8 +3,7 @@
 use mathlib.Core.Path.{ap, ◌∙◌}
 use Rattle.wire.specs.Be.{put}
 use Rattle.lent.specs.Laws.{lent-short, lent-enough}
-use Rattle.answers.specs.Answers.{decision_size, decision_words}
-use Rattle.bmca.specs.declared.Decision.{Decision}
+use Rattle.answers.specs.Answers.{decision_size, decision_number, decision_words}
 use Rattle.rillarch.proofs.rillarch_decide.Goals as goal
 
 pub returns-then-answer-lt-DECISION_WORDS : goal.returns-then-answer-lt-DECISION_WORDS
@@ -20,4 +19,4 @@ returns c =
     let room = c.if-answer-lt-DECISION_WORDS.false in
     let told = c.decide.ensures in
     let m = c.tell_decision.ensures in
-    record { value = m.0 ∙ ap (λ (d : Decision). d.number) told.value ∙ lent-enough decision_size a 1 _ room; store_after = told.store_after ∙ lent-enough decision_size a s _ room; answer_after = m.1 ∙ ap (λ t. put a 0 (decision_words t)) told.value ∙ lent-enough decision_size a a _ room }
+    record { value = m.0 ∙ ap decision_number told.value ∙ lent-enough decision_size a 1 _ room; store_after = told.store_after ∙ lent-enough decision_size a s _ room; answer_after = m.1 ∙ ap (λ t. put a 0 (decision_words t)) told.value ∙ lent-enough decision_size a a _ room }

@@ -9,16 +9,16 @@ use Rattle.rillarch_log.proofs.answer_block.Goals as goal
 pub slice_bounds-piece-end : goal.slice_bounds-piece-end
 slice_bounds-piece-end c = sym (length-take-le _ _ c.requires.0)
 
-pub loop-piece-smaller : goal.loop-piece-smaller
-loop-piece-smaller c =
+pub loop-from-smaller : goal.loop-from-smaller
+loop-from-smaller c =
     let f = rw c.in-Line.is at c.answer_after.ensures.step_within in
     omega (arith, f)
 
-pub loop-piece-preserved : goal.loop-piece-preserved
-loop-piece-preserved c =
+pub loop-from-preserved : goal.loop-from-preserved
+loop-from-preserved c =
     let f = rw c.in-Line.is at c.answer_after.ensures.step_within in
-    let m = c.make_room-room.ensures in
-    let i = c.loop-piece.invariant in
+    let m = c.in_ok-from.ensures in
+    let i = c.loop-from.invariant in
     let k = rw c.in-Line.is at c.answer_after.ensures.step_known in
     (search rules, search rules, search rules, omega (arith, f.0, m, i.3), k)
 

@@ -2,8 +2,8 @@
 use native.Mathlib.Omega.{arith}
 use Rattle.rillarch_log.proofs.finish.Goals as goal
 
-pub flush-requires-in-Line : goal.flush-requires-in-Line
-flush-requires-in-Line c =
+pub flush-requires-in-Some : goal.flush-requires-in-Some
+flush-requires-in-Some c =
     let l = c.last_answer in
-    let w = rw c.in-Line.is at l.ensures.within in
+    let w = rw c.in-Some.is at l.ensures.within in
     omega (arith, w, l.auto)

@@ -4,13 +4,10 @@ use Rattle.std.proofs.Common.{◌≡◌, ◌≤◌, length}
 use Rattle.log_answer.specs.Answer.{Known}
 use Rattle.rillarch_log.proofs.run.Given as goal
 
-abbrev pub invariant-loop-turns : goal.invariant-loop-turns
-invariant-loop-turns l = (length l.store ≡ length l.initial.store)
+abbrev pub invariant-loop : goal.invariant-loop
+invariant-loop l = (length l.store ≡ length l.initial.store)
     × (length l.block ≡ length l.initial.block)
     × (length l.line ≡ length l.initial.line)
     × (length l.out ≡ length l.initial.out)
     × (l.used ≤ length l.initial.out)
     × Known 0 l.setup l.store
-
-abbrev pub decreases-loop-turns : goal.decreases-loop-turns
-decreases-loop-turns l = l.turns

@@ -1,17 +1,10 @@
--- `same::same_message` meets its contract: the test is the definition's, part by part.
+-- `same::same_message` meets its contract.
 -- Assumes nothing.
-use mir.Syntax.{w16}
-use Rattle.same.specs.Test.{by_bits}
+use mathlib.Core.Path.{◌∙◌}
 use Rattle.same.specs.Same.{message, same_message}
+use Rattle.same.proofs.Derived.{agree, message_derived}
 use Rattle.same.proofs.same_message.Goals as goal
 
 pub returns : goal.returns
-unfolding message same_message
-returns c =
-    let z = c in
-    rw (
-      c.same_quality.ensures,
-      c.same_timestamp.ensures,
-      c.same_header.ensures,
-      by_bits w16 z.offset.ensures z.offset-2.ensures z.offset.type_inv z.offset-2.type_inv,
-    )
+unfolding same_message
+returns c = c.eq.ensures ∙ agree message_derived message c.args.ours c.args.theirs

@@ -4,7 +4,7 @@ use mathlib.Core.Path.{◌≡◌, sym, ap₂, ◌∙◌}
 use mathlib.Core.List.{[], ◌∷◌}
 use native.Mathlib.Omega.{arith}
 use lib.ListN.{get_or}
-use Rattle.order.specs.declared.Ordering.TheVariants.{Less, Greater}
+use Rattle.std.specs.declared.cmp.Ordering.TheVariants.{Less, Greater}
 use Rattle.order.specs.Order.{is_less, lex}
 use Rattle.order.specs.Rows.{decided, lower, higher}
 use Rattle.history.specs.Port.{steps}

@@ -1,6 +1,6 @@
 -- `store::find_master` meets its contract. Assumes nothing.
 use native.Mathlib.Omega.{arith}
-use Prim.Native.Nat.{ℕ, ◌-◌}
+use Prim.Native.Nat.{ℕ}
 use mathlib.Core.Path.{◌≡◌, sym, ◌∙◌, ap}
 use mathlib.Core.Bool.{Bool, false}
 use borrow.Author.Count.{below_none, below_more}
@@ -11,41 +11,11 @@ use Rattle.store.specs.Layout.{identity, master_at, master_words}
 use Rattle.store.specs.Search.{named, place}
 use Rattle.store.proofs.find_master.Goals as goal
 
-pub bounds-port-1 : goal.bounds-port-1
-bounds-port-1 c = omega arith
-
 pub loop-i-init : goal.loop-i-init
 loop-i-init c = (omega arith, below_none _)
 
-pub overflow_mul-at : goal.overflow_mul-at
-overflow_mul-at c = omega arith
-
-pub overflow_add-at : goal.overflow_add-at
-overflow_add-at c = omega arith
-
-pub overflow_add-at-in-loop-i : goal.overflow_add-at-in-loop-i
-overflow_add-at-in-loop-i c = omega arith
-
-pub offset_bounds-port-at : goal.offset_bounds-port-at
-offset_bounds-port-at c = omega arith
-
-pub slice_bounds-is_master-count : goal.slice_bounds-is_master-count
-slice_bounds-is_master-count c = omega arith
-
-pub slice_bounds-is_master-start : goal.slice_bounds-is_master-start
-slice_bounds-is_master-start c = omega arith
-
-pub slice_bounds-is_master-end : goal.slice_bounds-is_master-end
-slice_bounds-is_master-end c = omega arith
-
 pub is_master-requires : goal.is_master-requires
 is_master-requires c = simp (length-take, length-drop) (omega arith)
-
-pub overflow_add-i : goal.overflow_add-i
-overflow_add-i c = omega arith
-
-pub loop-i-smaller : goal.loop-i-smaller
-loop-i-smaller c = omega arith
 
 pub loop-i-preserved : goal.loop-i-preserved
 loop-i-preserved c =

@@ -1,14 +1,7 @@
 -- `store::is_master` meets its contract. Assumes nothing.
 use borrow.Author.Tests.{eq-eqb, ne_eqb}
-use borrow.Author.Rules.{rules}
 use Rattle.same.specs.Same.{same_port}
 use Rattle.store.proofs.is_master.Goals as goal
-
-pub bounds-master-0 : goal.bounds-master-0
-bounds-master-0 c = search rules
-
-pub bounds-master-1 : goal.bounds-master-1
-bounds-master-1 c = search rules
 
 pub returns-then-master-clock : goal.returns-then-master-clock
 unfolding same_port

@@ -1,15 +1,14 @@
 -- `tlv_set::list_entry` meets its contract: the list is checked, then read by the view.
 -- Assumes nothing.
-use mathlib.Core.Path.{sym, ◌∙◌}
+use Rattle.std.proofs.Common.{sym, ◌∙◌}
+use Rattle.std.proofs.lemmas.Result.{err_from_is_err_and}
 use Rattle.tlv_set.specs.View.{list-refused, list-taken}
 use Rattle.tlv_set.proofs.list_entry.Goals as goal
 
-pub returns-then-n-ne0 : goal.returns-then-n-ne0
-returns-then-n-ne0 c =
-    let a = c.args in
-    list-refused a.s.now a.at _ (sym c.check-n.ensures) c.if-n-ne0.true
+pub returns-in_err-check : goal.returns-in_err-check
+returns-in_err-check c =
+    let p = err_from_is_err_and c.from_residual.result c.from_residual.ensures.1 in
+    rw (p.1, p.2) (list-refused c.args.s.now c.args.at _ (sym c.in_err-check.ensures))
 
 pub returns : goal.returns
-returns c =
-    let a = c.args in
-    c.view_entry.ensures ∙ list-taken a.s.now a.at (sym c.check-n.ensures ∙ c.if-n-ne0.false)
+returns c = c.view_entry.ensures ∙ list-taken c.args.s.now c.args.at (sym c.in_ok-check.ensures)

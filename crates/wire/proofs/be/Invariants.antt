@@ -1,12 +1,9 @@
 -- `wire::be` meets its contract: after i bytes x is the number of the first i.
 -- Assumes nothing.
-use Prim.Native.Nat.{◌-◌, ◌^◌, ◌≤◌, ◌<◌}
+use Prim.Native.Nat.{◌^◌, ◌<◌}
 use mathlib.Core.Path.{◌≡◌}
 use Rattle.wire.specs.Be.{be_at}
 use Rattle.wire.proofs.be.Given as goal
 
 abbrev pub invariant-loop-i : goal.invariant-loop-i
-invariant-loop-i l = (l.i ≤ l.n) × (l.x ≡ be_at l.s l.at l.i) × (l.x < 256 ^ l.i)
-
-abbrev pub decreases-loop-i : goal.decreases-loop-i
-decreases-loop-i l = l.n - l.i
+invariant-loop-i l = (l.x ≡ be_at l.s l.at l.i) × (l.x < 256 ^ l.i)

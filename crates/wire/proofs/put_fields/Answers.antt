@@ -1,28 +1,12 @@
 -- `wire::put_fields` meets its contract: the fields that are left lead, from any turn, to the same list.
 -- Assumes nothing.
-use borrow.Author.Rules.{rules}
-use Prim.Native.Nat.{◌-◌, ◌<◌}
-use mathlib.Core.Path.{◌≡◌, refl, sym, ◌∙◌}
+use Prim.Native.Nat.{◌<◌}
+use mathlib.Core.Path.{◌≡◌, sym, ◌∙◌}
 use native.Mathlib.Omega.{arith}
 use lib.ListN.{length, get_or}
 use Rattle.wire.specs.Be.{bytes_of, put}
 use Rattle.wire.proofs.LayoutLaws.{total-next, put_all-next, put_all-end, put_all-put}
 use Rattle.wire.proofs.put_fields.Goals as goal
-
-pub loop-i-init : goal.loop-i-init
-loop-i-init c = (omega arith, refl, search rules, refl)
-
-pub put_be-requires : goal.put_be-requires
-put_be-requires c =
-    let l = c.loop-i in
-    let a = c.args in
-    omega (arith, total-next a.widths.now l.i (omega arith))
-
-pub overflow_add-p : goal.overflow_add-p
-overflow_add-p c =
-    let l = c.loop-i in
-    let a = c.args in
-    omega (arith, total-next a.widths.now l.i (omega arith))
 
 pub loop-i-preserved : goal.loop-i-preserved
 loop-i-preserved c =
@@ -39,9 +23,6 @@ loop-i-preserved c =
       omega (arith, total-next ws l.i hw),
       rw put-now (put_all-next l.s l.p ws vs l.i hw hv ∙ l.invariant.3),
     )
-
-pub shape_of-s : goal.shape_of-s
-shape_of-s c = c.loop-i.invariant.1
 
 pub returns : goal.returns
 returns c =

@@ -1,0 +1,2 @@
+-- The numbers of refusals, and a result by its number.
+pub mod Refusal

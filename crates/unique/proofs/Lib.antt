@@ -1,0 +1,2 @@
+-- What a refusal leaves.
+pub mod Refused
