@@ -21,7 +21,8 @@ fn kept(at: usize, n: usize, x: u64, want: Message) -> bool {
 // F(n).
 pub fn sequence(n: u64) -> bool {
     let mut frame = F;
-    wire::put_be(&mut frame, 30, 2, n);
+    frame[30] = (n / 256 % 256) as u8;
+    frame[31] = (n % 256) as u8;
     let want = frames::headed(frames::f_header((n % 65536) as u16));
     codec::round(&frame, want, 0, &frame)
 }

@@ -1,14 +1,16 @@
 -- The comparison by its cases, for the code and for the laws.
 -- Assumes nothing.
 use Rattle.std.specs.Prelude.{◌≡◌, ℕ, ◌+◌, ◌<◌, ◌≤◌}
-use Rattle.std.proofs.Common.{◌∙◌, arith}
+use Rattle.std.specs.Ordering.{ordering_then}
+use Rattle.std.specs.declared.cmp.Ordering.{Ordering}
+use Rattle.std.proofs.Common.{◌∙◌, ap₂, arith}
 use Rattle.std.proofs.Math.Decide.{dec_lt}
 use borrow.Author.Tests.{lt-ltb, le-ltb, eq-eqb, ne_eqb}
 use Rattle.verdict.specs.declared.DatasetOrdering.TheVariants.{Better, Worse}
 use Rattle.compare.specs.declared.ComparisonDataset.{ComparisonDataset}
 use Rattle.order.specs.Order.{cmp, then_by, lex}
 use Rattle.compare.specs.Dataset.{quality_row, by_topology, nearer_by, farther_by, topology_row, near, figure34, figure35, compare_of}
-use Rattle.order.specs.Rows.{Two, lt, eq, gt, two, cmp_less, cmp_greater, cmp_equal, then_by_assoc, then_by_equal}
+use Rattle.order.specs.Rows.{Two, lt, eq, gt, two, cmp_less, cmp_greater, cmp_equal, then-library, then_by_assoc, then_by_equal}
 
 module _ (a b : ComparisonDataset) where
   pub same-grandmaster : a.gm_identity ≡ b.gm_identity → compare_of a b ≡ figure35 a b
@@ -39,6 +41,10 @@ module _ (a b : ComparisonDataset) where
 
   pub level : a.steps_removed ≤ b.steps_removed → b.steps_removed ≤ a.steps_removed → figure35 a b ≡ by_topology (lex (topology_row a) (topology_row b))
   level h k = within (omega arith) (omega arith) ∙ simp (cmp_equal _ _ h k)
+
+-- what the library's tuples say of a number and the next, in the comparison's words
+pub then-words : {o p o' p' : Ordering} → o ≡ o' → p ≡ p' → ordering_then o p ≡ then_by o' p'
+then-words {o = o} {p = p} e f = then-library o p ∙ ap₂ then_by e f
 
 -- the numbers that decide between different grandmasters, one after the other
 pub quality-row :

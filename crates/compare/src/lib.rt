@@ -103,16 +103,23 @@ impl ComparisonDataset {
     {
         let a = self.gm_clock_quality;
         let b = other.gm_clock_quality;
-        let priority = self.gm_priority_1.cmp(&other.gm_priority_1);
-        priority
-            .then(a.clock_class.cmp(&b.clock_class))
-            .then(a.clock_accuracy.cmp(&b.clock_accuracy))
-            .then(
-                a.offset_scaled_log_variance
-                    .cmp(&b.offset_scaled_log_variance),
-            )
-            .then(self.gm_priority_2.cmp(&other.gm_priority_2))
-            .then(self.gm_identity.cmp(&other.gm_identity))
+        let ours = (
+            self.gm_priority_1,
+            a.clock_class,
+            a.clock_accuracy,
+            a.offset_scaled_log_variance,
+            self.gm_priority_2,
+            self.gm_identity,
+        );
+        let theirs = (
+            other.gm_priority_1,
+            b.clock_class,
+            b.clock_accuracy,
+            b.offset_scaled_log_variance,
+            other.gm_priority_2,
+            other.gm_identity,
+        );
+        ours.cmp(&theirs)
     }
 
     // Figure 35: one grandmaster. Fewer steps are better; one step apart, the receiver of the farther one decides.

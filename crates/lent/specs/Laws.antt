@@ -1,6 +1,6 @@
 -- Words written one after the other, and the two ways of a call that is lent room for its answer.
 -- Assumes nothing.
-use Rattle.std.specs.Prelude.{ℕ, ◌+◌, ◌≤◌, ◌<◌, ◌≡◌, refl, Bool, true, false, cond, ◌&&◌, List, [], ◌∷◌, ◌++◌, leb, ltb, length, set, suc, drop, get_or}
+use Rattle.std.specs.Prelude.{ℕ, ◌+◌, ◌≤◌, ◌<◌, ◌≡◌, refl, Bool, true, false, cond, ◌&&◌, List, [], ◌∷◌, ◌++◌, leb, ltb, length, set, suc, take, drop, get_or}
 use Rattle.std.proofs.Common.{sym, ap, ◌∙◌, add-zero, arith, lt-ltb, le-ltb, ltb-false, le-leb, drop_of_length-le}
 use Rattle.std.specs.List.{list_all, zip}
 use Rattle.wire.specs.Be.{put}
@@ -59,6 +59,13 @@ unfolding all_within
 within-zip ws [] h = refl
 within-zip [] (l ∷ ls) h = absurd (omega (arith, h))
 within-zip (w ∷ ws) (l ∷ ls) h = ap (λ (t : Bool). leb w l && t) (within-zip ws ls (omega (arith, h)))
+
+-- words past the limits are not looked at
+pub within-take : (ws ls : List ℕ) → all_within (take (length ls) ws) ls ≡ all_within ws ls
+unfolding all_within
+within-take ws [] = refl
+within-take [] (l ∷ ls) = refl
+within-take (w ∷ ws) (l ∷ ls) = ap (λ (t : Bool). leb w l && t) (within-take ws ls)
 
 -- ---- words against limits, one after the other
 

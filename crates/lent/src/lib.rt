@@ -31,7 +31,7 @@ pub fn check(words: &[u64], limits: &[u64]) -> Result<(), Refusal>
     if words.len() < limits.len() {
         return Err(Refusal::Short);
     }
-    if !within(words, limits) {
+    if !within(&words[..limits.len()], limits) {
         return Err(Refusal::Unfit);
     }
     Ok(())

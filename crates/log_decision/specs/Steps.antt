@@ -66,10 +66,14 @@ module _ (setup : Setup) (listening : ℕ) (s out : List ℕ) (r : Answered) (s'
   abbrev decided_by : Result Decision Refusal → List ℕ
   decided_by a = (answer_of a).0 ∷ map state_byte (answers_in a)
 
+  tells-decision : (a : Result Decision Refusal) → a ≡ decide_answer s setup.priority_1 setup.quality setup.priority_2 listening
+      → told_of (some (decision_of setup listening)) s ≡ decided_by a
+  tells-decision a was = ap decided_by (sym was)
+
   pub decision-refused : (e : Refusal) → Err e ≡ decide_answer s setup.priority_1 setup.quality setup.priority_2 listening
       → (t : (r.setup ≡ setup) × (r.count ≡ 3) × (out' ≡ sets out 0 (text_of (number_of e ∷ [])))) → Answers (some (decision_of setup listening)) setup s out r s' out'
   decision-refused e was t =
-      tells (some (decision_of setup listening)) setup s out (number_of e ∷ []) (ap decided_by (sym was)) r s' out'
+      tells (some (decision_of setup listening)) setup s out (number_of e ∷ []) (tells-decision (Err e) was) r s' out'
       (t.0 ∙ kept-setup (answer_of (decide_answer s setup.priority_1 setup.quality setup.priority_2 listening)).0 setup) t.1 words t.2
 
   pub decision-done : (d : Decision) → Ok d ≡ decide_answer s setup.priority_1 setup.quality setup.priority_2 listening
@@ -79,4 +83,4 @@ module _ (setup : Setup) (listening : ℕ) (s out : List ℕ) (r : Answered) (s'
       let a : Option Asked = some (decision_of setup listening) in
       let bytes : List ℕ = 0 ∷ map state_byte (take d.ports d.answers) in
       let size : length (map state_byte (take d.ports d.answers)) ≡ d.ports = length-map (take d.ports d.answers) state_byte ∙ length-take-le d.ports d.answers few in
-      tells a setup s out bytes (ap decided_by (sym was)) r s' out' (e ∙ kept-setup (answer_of (decide_answer s setup.priority_1 setup.quality setup.priority_2 listening)).0 setup) (omega (arith, n, size)) words t
+      tells a setup s out bytes (tells-decision (Ok d) was) r s' out' (e ∙ kept-setup (answer_of (decide_answer s setup.priority_1 setup.quality setup.priority_2 listening)).0 setup) (omega (arith, n, size)) words t

@@ -18,12 +18,9 @@ pub fn write_header(
 }
 
 // Writes a content into bytes of the target from 34 on.
-pub fn write_content(
-    a: AnnounceMessage,
-    target: &mut [u8; 70],
-    size: usize,
-) -> Result<(), Refusal> {
-    announce_writer::serialize_content(a, framing::first_mut(&mut target[34..], size))
+pub fn write_content(a: AnnounceMessage, target: &mut [u8], size: usize) -> Result<(), Refusal> {
+    let room = target.get_mut(34..).unwrap_or(&mut []);
+    announce_writer::serialize_content(a, framing::first_mut(room, size))
 }
 
 // Whether a message, written over a content of 30 bytes into a target of 70 bytes of one value, gives these bytes

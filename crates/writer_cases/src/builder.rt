@@ -67,7 +67,8 @@ pub fn entry_type(n: u64) -> bool {
     let mut target = [0u8; 12];
     room::fill(&mut target);
     let mut want = *b"\x00\x00\x00\x02\x01\x02";
-    wire::put_be(&mut want, 0, 2, n);
+    want[0] = (n / 256 % 256) as u8;
+    want[1] = (n % 256) as u8;
     write(&mut target, 12, (n % 65536) as u16, &TWO).is_ok() && room::holds_over(&target, &want)
 }
 

@@ -5,7 +5,7 @@ use mathlib.Core.Path.{sym, ap, ◌∙◌}
 use mathlib.Core.Bool.{Bool, cond}
 use lib.ListN.{length}
 use Rattle.lent.specs.Words.{all_within}
-use Rattle.lent.specs.Laws.{lent-short, lent-enough}
+use Rattle.lent.specs.Laws.{within-take, lent-short, lent-enough}
 use Rattle.lent.proofs.check.Goals as goal
 
 abbrev number : Bool → ℕ
@@ -21,10 +21,10 @@ pub returns-then-not-within : goal.returns-then-not-within
 returns-then-not-within c =
     let ws = c.args.words.now in
     let ls = c.args.limits.now in
-    sym (ap number (sym c.within.ensures ∙ c.if-not-within.true)) ∙ lent-enough (length ls) ws 1 (number (all_within ws ls)) c.if-words-limits.false
+    sym (ap number (sym (c.within.ensures ∙ within-take ws ls) ∙ c.if-not-within.true)) ∙ lent-enough (length ls) ws 1 (number (all_within ws ls)) c.if-words-limits.false
 
 pub returns : goal.returns
 returns c =
     let ws = c.args.words.now in
     let ls = c.args.limits.now in
-    sym (ap number (sym c.within.ensures ∙ c.if-not-within.false)) ∙ lent-enough (length ls) ws 1 (number (all_within ws ls)) c.if-words-limits.false
+    sym (ap number (sym (c.within.ensures ∙ within-take ws ls) ∙ c.if-not-within.false)) ∙ lent-enough (length ls) ws 1 (number (all_within ws ls)) c.if-words-limits.false
